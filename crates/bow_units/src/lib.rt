@@ -1,20 +1,31 @@
 //! What every other crate speaks of: the sizes of a device, requests and their answers, the two magic
-//! numbers, and the streams at the program's edge.
+//! numbers, decimal numbers, the pattern and the text of a block's content, draws from a number, and the
+//! streams at the program's edge.
 #![tactic(auto)]
 
+mod contents;
+mod draws;
 mod failures;
 mod gates;
 mod magics;
 mod memory_ends;
+mod numbers;
+mod patterns;
 mod requests;
 mod sizes;
 mod statuses;
 mod streams;
+#[cfg(test)]
+mod tests;
 
+pub use contents::{content_text_law, push_content};
+pub use draws::Draws;
 pub use failures::{Failed, NoMemory};
 pub use gates::{Gate, OpenGate};
 pub use magics::has_magic;
 pub use memory_ends::{MemSink, MemSource};
+pub use numbers::read_number;
+pub use patterns::{fill_pattern, pattern_of};
 pub use requests::{Op, Outcome, Payload, Phase};
 pub use sizes::{Extent, Geometry};
 pub use statuses::{Kind, Seen, Status};

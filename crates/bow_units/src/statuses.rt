@@ -23,6 +23,7 @@ pub enum Kind {
 /// What the device tells of itself.
 #[derive(Clone, Copy, Debug, PartialEq, Eq)]
 pub struct Status {
+    /// How far it is.
     pub phase: Phase,
     /// The number of free blocks.
     pub free: u64,
@@ -35,6 +36,8 @@ pub struct Status {
 /// A status with the number of the step after which it was taken. Later statuses have larger versions.
 #[derive(Clone, Copy, Debug, PartialEq, Eq)]
 pub struct Seen {
+    /// The number of the step.
     pub version: u64,
+    /// What the device told after it.
     pub status: Status,
 }
