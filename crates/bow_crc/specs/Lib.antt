@@ -1,0 +1,3 @@
+pub mod Crc
+pub mod Sums
+pub mod Laws

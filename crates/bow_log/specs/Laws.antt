@@ -1,0 +1,32 @@
+-- What follows from the definitions.
+use Rattle.std.specs.Prelude.{◌≡◌, ◌↔◌, ℕ, List, Option, Some, None, is_none, if◌then◌else◌}
+use Rattle.bow_units.specs.declared.sizes.Geometry.{Geometry}
+use Rattle.bow_units.specs.Sizes.{IsValid}
+use Rattle.bow_log.specs.Spelling.{Fields, Fits, spell}
+use Rattle.bow_log.specs.Generations.{Generation, IsGeneration, GenerationFits, generation_of, fields_of}
+use Rattle.bow_log.specs.Rules.{IsLog}
+use Rattle.bow_log.specs.Faults.{fault_of, parts_of}
+
+-- the generation that a block spells, or none
+abbrev pub generation_in : Geometry → List ℕ → Option Generation
+generation_in g block = if is_none (fault_of g block) then Some (generation_of g (parts_of block)) else None
+
+-- a log is valid exactly where its spelling has no fault
+abbrev pub SpellingIsClean : Type 0
+SpellingIsClean = (g : Geometry) (log : Fields) → IsValid g → Fits log → IsLog g log ↔ (fault_of g (spell log) ≡ None)
+
+-- a valid log is a generation, and no other log is the same one
+abbrev pub IsInBlocks : Type 0
+IsInBlocks = (g : Geometry) (log : Fields) → IsLog g log → IsGeneration g (generation_of g log) × (fields_of g (generation_of g log) ≡ log)
+
+-- a generation is a valid log, and no other generation is the same one
+abbrev pub IsInSectors : Type 0
+IsInSectors = (g : Geometry) (x : Generation) → IsValid g → IsGeneration g x → IsLog g (fields_of g x) × (generation_of g (fields_of g x) ≡ x)
+
+-- what a block spells is a generation
+abbrev pub BlockGives : Type 0
+BlockGives = (g : Geometry) (block : List ℕ) (x : Generation) → IsValid g → generation_in g block ≡ Some x → IsGeneration g x
+
+-- and each generation whose numbers fit is spelled
+abbrev pub BlockTakes : Type 0
+BlockTakes = (g : Geometry) (x : Generation) → IsValid g → IsGeneration g x → GenerationFits x → generation_in g (spell (fields_of g x)) ≡ Some x

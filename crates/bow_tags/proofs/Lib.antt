@@ -1,0 +1,10 @@
+pub mod Lists
+pub mod Moved
+pub mod Keeps
+pub mod Serves
+pub mod Tally
+pub mod Seating
+pub mod Start
+pub mod LawsHold
+pub mod Gathered
+pub mod Ending
