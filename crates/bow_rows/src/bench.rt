@@ -1,0 +1,137 @@
+// One run of the program over a disk in memory.
+ghost use Rattle.std.specs.Prelude.{◌≡◌, length, IfOk};
+ghost use Rattle.bow_units.specs.Causes.{HasCause};
+
+use bow_disk::{Disk, MemDisk};
+use bow_tool::tool;
+use bow_units::{Failed, Geometry, MemSink, MemSource, fill_pattern};
+use std::alloc::Global;
+use std::test::Fail;
+
+/// How a run ended.
+#[derive(Drop)]
+pub(crate) struct Played {
+    pub(crate) status: u8,
+    pub(crate) text: Vec<u8>,
+    pub(crate) image: Vec<u8>,
+    pub(crate) calls: u64,
+}
+
+/// The sizes of the sample image: 16 blocks of 512 bytes.
+pub(crate) const I16: Geometry = Geometry {
+    block_size: 512,
+    blocks: 16,
+};
+
+/// The sample image: block b holds the pattern of b with seed 0.
+pub(crate) fn sample_image(alloc: Global) -> Result<Vec<u8>, Fail>
+    ensures { IfOk result (λ image. length image.items ≡ 8192) }
+{
+    let mut image = vec![in alloc; 0u8; 8192]?;
+    fill_sample(&mut image);
+    Ok(image)
+}
+
+fn fill_sample(image: &mut [u8])
+    requires { length image.old ≡ 8192 }
+{
+    for block in 0..16usize {
+        fill_pattern(block as u64, 0, &mut image[block * 512..block * 512 + 512]);
+    }
+}
+
+/// These words, one after the other.
+pub(crate) fn words(alloc: Global, words: &[&str]) -> Result<Vec<String>, Fail> {
+    let mut all = Vec::new(alloc);
+    for word in words {
+        all.push(String::from_str(alloc, word)?)?;
+    }
+    Ok(all)
+}
+
+/// The words of `play` over 512-byte blocks.
+pub(crate) fn play_words(alloc: Global) -> Result<Vec<String>, Fail> {
+    words(alloc, &["image", "attempts", "512", "play", "0"])
+}
+
+/// The program with these words over this disk and this source.
+pub(crate) fn play_over(
+    alloc: Global,
+    words: &[String],
+    disk: MemDisk,
+    source: &mut MemSource,
+) -> Result<Played, Fail> {
+    let mut sink = MemSink::new(alloc, 65_536)?;
+    let ended = tool(alloc, words, disk, source, &mut sink);
+    Ok(Played {
+        status: ended.status,
+        text: sink.bytes().to_vec(alloc)?,
+        image: ended.disk.image(alloc)?,
+        calls: ended.disk.calls(),
+    })
+}
+
+/// The program with these words over the sample image and this script.
+pub(crate) fn play(alloc: Global, words: &[String], script: &str) -> Result<Played, Fail> {
+    let disk = MemDisk::new(alloc, I16, sample_image(alloc)?, 64)?;
+    let mut source = MemSource::new(alloc, script.as_bytes().to_vec(alloc)?);
+    play_over(alloc, words, disk, &mut source)
+}
+
+/// A disk that states sizes, fails at every other call, and tells no content.
+#[derive(Drop)]
+pub(crate) struct Stated {
+    sizes: Geometry,
+    faults: u64,
+}
+
+impl Stated {
+    pub(crate) fn new(sizes: Geometry) -> Stated {
+        Stated { sizes, faults: 0 }
+    }
+
+    fn fail(&mut self) -> Result<(), Failed>
+        ensures same { self.new.sizes ≡ self.old.sizes }
+        ensures cause { HasCause self.old.faults self.new.faults result }
+    {
+        self.faults = self.faults.saturating_add(1);
+        Err(Failed)
+    }
+}
+
+impl Disk for Stated {
+    ghost use Rattle.std.specs.Prelude.{None, Some};
+    ghost use Rattle.bow_disk.specs.Files.{nothing};
+
+    ghost stated = { λ d. Some d.sizes };
+
+    ghost content = { λ d. None };
+
+    ghost moment = { λ d. 0 };
+
+    ghost left_since = { λ d t image. ⊥ };
+
+    ghost faults = { λ d. d.faults };
+
+    fn sizes(&mut self) -> Result<Geometry, Failed> {
+        Ok(self.sizes)
+    }
+
+    fn read(&mut self, _at: u64, _into: &mut [u8]) -> Result<(), Failed> {
+        self.fail()
+    }
+
+    fn write(&mut self, _at: u64, _from: &[u8]) -> Result<(), Failed> {
+        self.fail()
+    }
+
+    fn flush(&mut self) -> Result<(), Failed> {
+        self.fail()
+    }
+
+    ghost shaped = { λ d c is g stated. absurd (nothing c is) };
+
+    ghost counts_now = { λ d c is t image le crash. absurd (nothing c is) };
+
+    ghost only_now = { λ d c is image left. absurd (nothing c is) };
+}

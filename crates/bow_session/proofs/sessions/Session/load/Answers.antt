@@ -1,0 +1,30 @@
+use Rattle.std.proofs.Common.{◌+◌, ◌<◌, ◌≤◌, ◌^◌, List, length, ap, sym, subst, ◌∙◌}
+use Rattle.std.specs.List.{sum_by}
+use Rattle.bow_units.specs.declared.sizes.Geometry.{Geometry}
+use Rattle.bow_units.specs.Sizes.{IsValid}
+use Rattle.bow_script.specs.declared.scripts.Line.{Line}
+use Rattle.bow_script.specs.Grammar.{blocks_of}
+use Rattle.bow_script.specs.Scripts.{lane_lines as read_lines}
+use Rattle.bow_session.specs.Lanes.{lane_lines}
+use Rattle.bow_session.specs.Requests.{AreFor}
+use Rattle.bow_session.proofs.Ending.{first_moments, first_fit, first_room, one_lane, still_one, first_played}
+use Rattle.bow_session.proofs.Reading.{no_reads}
+use Rattle.bow_session.proofs.sessions.Session.load.Goals as goal
+
+pub invariant_of-result : goal.invariant_of-result
+invariant_of-result g c =
+    let are = subst (λ (x : Geometry). AreFor x (lane_lines c.args.script 0) c.in-Ok.memory.pending.items) c.geometry.ensures.is (subst (λ (l : List Line). AreFor c.geometry.result l c.in-Ok.memory.pending.items) c.only_lane.ensures c.in-Ok.ensures.pending) in
+    let same = one_lane c.args.script (read_lines 0 c.args.script) c.requires.lane in
+    let few : length (lane_lines c.args.script 0) ≤ 65536 = subst (λ (l : List Line). length l ≤ 65536) (sym same) c.requires.requests in
+    let tickets : c.args.core.admitted + length (lane_lines c.args.script 0) < 2 ^ 64 = subst (λ (l : List Line). c.args.core.admitted + length l < 2 ^ 64) (sym same) c.requires.tickets in
+    let items = ap (sum_by (λ (line : Line). blocks_of line + 1)) c.only_lane.ensures in
+    record {
+      lane = still_one _ _ c.requires.lane;
+      fit = first_fit _ _ _ _ _ _ (subst IsValid c.geometry.ensures.is c.geometry.ensures.valid) few c.in-Ok.ensures.empty.0 c.requires.place are tickets;
+      room = first_room _ _ _ _ _ _ c.in-Ok.ensures.empty.0 c.requires.place (c.in-Ok.ensures.answers ∙ ap length c.only_lane.ensures) (c.in-Ok.ensures.items ∙ items) (c.in-Ok.ensures.moments ∙ items);
+      moments = first_moments _ _ _ c.in-Ok.ensures.empty.2 c.in-Ok.ensures.empty.1;
+      reads = no_reads c.args.core.geometry.block_size c.args.script c.in-Ok.memory.journal.items c.in-Ok.ensures.empty.1;
+    }
+
+pub returns-in-Ok-clause-played : goal.returns-in-Ok-clause-played
+returns-in-Ok-clause-played g c start stands = first_played _ _ _ _ _ _ _ _ c.in-Ok.ensures.empty.0 c.in-Ok.ensures.empty.1 c.requires.place stands

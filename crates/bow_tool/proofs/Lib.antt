@@ -1,0 +1,2 @@
+pub mod Playing
+mod Transfers

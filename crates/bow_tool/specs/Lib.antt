@@ -1,0 +1,4 @@
+pub mod Play
+pub mod Refusals
+pub mod Streams
+pub mod Words

@@ -1,0 +1,36 @@
+-- The status and the line of each refusal.
+use Rattle.std.specs.Prelude.{ℕ, List, [], ◌∷◌, ◌++◌, codes}
+use Rattle.std.specs.Fmt.{decimal}
+use Rattle.bow_core.specs.declared.device.OpenFault.{OpenFault}
+use Rattle.bow_core.specs.declared.device.OpenFault.TheVariants as opens
+use Rattle.bow_tool.specs.declared.refusals.Refusal.{Refusal}
+use Rattle.bow_tool.specs.declared.refusals.Refusal.TheVariants.{BadWords, BadScript, SourceFault, DiskFault, NeedsRestore, NoMemory, BadGeometry}
+
+abbrev pub status_of : Refusal → ℕ
+status_of BadWords = 2
+status_of (BadScript line) = 3
+status_of SourceFault = 4
+status_of DiskFault = 6
+status_of NeedsRestore = 8
+status_of NoMemory = 11
+status_of (BadGeometry g) = 13
+
+-- why a device is not opened, as a refusal
+abbrev pub refusal_for : OpenFault → Refusal
+refusal_for (opens.BadGeometry g) = BadGeometry g
+refusal_for opens.NeedsRestore = NeedsRestore
+refusal_for opens.DiskFault = DiskFault
+refusal_for opens.NoMemory = NoMemory
+
+abbrev pub refusal_text : Refusal → List ℕ
+refusal_text BadWords = codes "bad words"
+refusal_text (BadScript line) = codes "bad script at line " ++ decimal line
+refusal_text SourceFault = codes "source fault"
+refusal_text DiskFault = codes "disk fault"
+refusal_text NeedsRestore = codes "needs restore"
+refusal_text NoMemory = codes "no memory"
+refusal_text (BadGeometry g) = codes "bad geometry " ++ decimal g.block_size ++ codes " " ++ decimal g.blocks
+
+-- the text and a line feed
+abbrev pub refusal_line : Refusal → List ℕ
+refusal_line refusal = refusal_text refusal ++ 10 ∷ []

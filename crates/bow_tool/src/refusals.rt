@@ -1,0 +1,86 @@
+// Why a call of the program ends without doing what was asked.
+ghost use Rattle.std.specs.Prelude.{◌≡◌, IfOk};
+ghost use Rattle.std.specs.String.{string_bytes};
+ghost use Rattle.bow_tool.specs.Refusals.{status_of, refusal_line};
+
+use bow_units::{Geometry, NoMemory};
+use std::alloc::Global;
+use std::fmt;
+
+/// Why a call of the program ends without doing what was asked. Each has its status and its line.
+#[derive(Clone, Copy, Debug, PartialEq, Eq)]
+pub enum Refusal {
+    /// The words ask for no command.
+    BadWords,
+    /// The text is no script. Line 0 stands for the whole text.
+    BadScript(u32),
+    /// A call of the source failed.
+    SourceFault,
+    /// A call of the disk failed, as the sizes were asked or the device was opened.
+    DiskFault,
+    /// Block 0 holds a log: the device has to be restored first.
+    NeedsRestore,
+    /// There was no memory.
+    NoMemory,
+    /// No device has these sizes.
+    BadGeometry(Geometry),
+}
+
+impl From<NoMemory> for Refusal {
+    ghost use Rattle.std.specs.Prelude.{◌≡◌};
+    ghost use Rattle.bow_tool.specs.declared.refusals.Refusal.TheVariants.{NoMemory};
+
+    ghost from_gives = { λ _ e. e ≡ NoMemory };
+
+    fn from(_: NoMemory) -> Self {
+        Refusal::NoMemory
+    }
+}
+
+impl Refusal {
+    /// The status with which the program ends.
+    pub fn status(&self) -> u8
+        ensures { result ≡ status_of self.now }
+    {
+        match self {
+            Refusal::BadWords => 2,
+            Refusal::BadScript(_) => 3,
+            Refusal::SourceFault => 4,
+            Refusal::DiskFault => 6,
+            Refusal::NeedsRestore => 8,
+            Refusal::NoMemory => 11,
+            Refusal::BadGeometry(_) => 13,
+        }
+    }
+
+    /// The line that the program writes, with its line feed.
+    pub fn line(&self, alloc: Global) -> Result<String, NoMemory>
+        ensures { IfOk result (λ line. string_bytes line ≡ refusal_line self.now) }
+    {
+        let refusal = *self;
+        Ok(format!(in alloc; "{refusal}\n")?)
+    }
+}
+
+impl fmt::Display for Refusal {
+    ghost use Rattle.std.specs.Prelude.{Some};
+    ghost use Rattle.bow_tool.specs.Refusals.{refusal_text};
+
+    ghost output = { λ x. Some (refusal_text x) };
+
+    fn fmt<W: fmt::Write>(&self, f: &mut fmt::Formatter<W>) -> fmt::Result {
+        match self {
+            Refusal::BadWords => f.write_str("bad words"),
+            Refusal::BadScript(line) => write!(f, "bad script at line {line}"),
+            Refusal::SourceFault => f.write_str("source fault"),
+            Refusal::DiskFault => f.write_str("disk fault"),
+            Refusal::NeedsRestore => f.write_str("needs restore"),
+            Refusal::NoMemory => f.write_str("no memory"),
+            Refusal::BadGeometry(sizes) => {
+                let block_size = sizes.block_size;
+                let blocks = sizes.blocks;
+                write!(f, "bad geometry {block_size} {blocks}")
+            }
+        }
+    }
+}
