@@ -7,7 +7,7 @@ use std::alloc::Global;
 use std::marker::Model;
 
 /// The kinds of all blocks as a list of runs of one kind. It has room for as many runs as there are blocks, at
-/// most 8 MiB for 1,048,576 blocks.
+/// most 16 MiB for 1,048,576 blocks.
 #[derive(Drop)]
 pub struct RangeList {
     runs: Vec<Run>,

@@ -84,7 +84,7 @@ impl<D: Disk> Desk<D> {
         ensures admitted { (before : ℕ) → HasAdmitted (run_of self.old) before → HasAdmitted (run_of self.new) before }
         ensures fewer { turns_left (run_of self.new) < turns_left (run_of self.old) }
     {
-        let number = self.answered.len() as u32;
+        let number = self.number();
         match self.core.step(Turn::Map(hand.ticket)) {
             Step::Wrote { index, .. } => {
                 let block = hand.first + index as u64;
@@ -113,6 +113,14 @@ impl<D: Disk> Desk<D> {
             }
             Step::Idle | Step::Moved => {}
         }
+    }
+
+    // The number of the next unanswered request.
+    pub(crate) fn number(&self) -> u32
+        requires { length self.now.answered.items ≤ 65536 }
+        ensures { result ≡ length self.now.answered.items }
+    {
+        self.answered.len() as u32
     }
 
     // One more item, with the count of calls right after it.

@@ -162,11 +162,7 @@ impl<D: Disk> Session<D> {
     pub fn answered(&self, lane: u32) -> u32
         ensures { result ≡ count_of self.now.answered lane }
     {
-        if lane == 0 {
-            self.desk.answered.len() as u32
-        } else {
-            0
-        }
+        if lane == 0 { self.desk.number() } else { 0 }
     }
 
     /// What was done, in order.
@@ -185,10 +181,11 @@ impl<D: Disk> Session<D> {
         if lane != 0 {
             return None;
         }
-        if number as usize >= answered.len() {
+        let number = number as usize;
+        if number >= answered.len() {
             return None;
         }
-        read_bytes(&answered[number as usize])
+        read_bytes(&answered[number])
     }
 
     /// What an item of the journal read: the bytes of its block. `None` exactly where the item is no `Got`, or its request

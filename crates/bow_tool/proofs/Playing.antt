@@ -2,6 +2,7 @@
 use Rattle.std.proofs.Common.{◌≡◌, ◌⊎◌, inl, inr, ℕ, ◌≤◌, List, Option, Some, Result, Ok, Err, IfOk, IfErr, MatchResult, refl, sym, ap, ◌∙◌, subst, arith, String}
 use Rattle.std.specs.declared.alloc.Global.{Global}
 use Rattle.bow_units.specs.declared.sizes.Geometry.{Geometry}
+use Rattle.bow_units.specs.Sizes.{IsValid}
 use Rattle.bow_disk.specs.Disk.{Content}
 use Rattle.bow_units.specs.declared.requests.Phase.{Phase}
 use Rattle.bow_units.specs.declared.requests.Phase.TheVariants.{Trim}
@@ -21,7 +22,7 @@ use Rattle.bow_tool.specs.declared.refusals.Refusal.TheVariants.{BadWords, BadSc
 use Rattle.bow_tool.specs.Refusals.{status_of}
 use Rattle.bow_tool.specs.Play.{Outside, GaveScript, WasRun, WasPlayed, transcript_of, AskPlay, IsPlayText, KeepsImage, RefusalCause}
 
-module _ (words : List (String Global)) (old new : Outside) (ask : AskPlay words) (given : GaveScript old.left new.left) (sizes : Geometry) (stated : new.stated ≡ Some sizes)
+module _ (words : List (String Global)) (old new : Outside) (ask : AskPlay words) (given : GaveScript old.left new.left) (sizes : Geometry) (stated : new.stated ≡ Some sizes) (valid : IsValid sizes)
     (script : List (List (List Line))) (is_given : script ≡ script_of given.lines) where
   -- a run over this image, of a script
   abbrev Ran : List (List (List Line)) → List (List ℕ) → Type 0
@@ -34,7 +35,7 @@ module _ (words : List (String Global)) (old new : Outside) (ask : AskPlay words
   pub played : {T : Type 0} (items : T → List ℕ) (r : Result T Refusal) (Rest : Content → Type 0)
       → ((c : Content) → old.content ≡ Some c → MatchResult r (λ text. (run : WasRun sizes script (opening c.now) new.content old.disk_faults new.disk_faults) × (items text ≡ transcript_of run)) (λ _. Rest c))
       → IfOk r (λ text. IsPlayText words old new (items text))
-  played items (Ok text) Rest gives = (ask, λ c is. let run = subst (λ lines. (w : Ran lines c.now) × (items text ≡ transcript_of w)) is_given (gives c is) in (whole c.now run.0, run.1))
+  played items (Ok text) Rest gives = (ask, given, (sizes, stated, valid), λ c is. let run = subst (λ lines. (w : Ran lines c.now) × (items text ≡ transcript_of w)) is_given (gives c is) in (whole c.now run.0, run.1))
   played items (Err e) Rest gives = tt
 
   -- a run without one: the image is as it was, or the script was run

@@ -102,9 +102,15 @@ RefusalCause words old new untouched DiskFault = AskPlay words × GaveScript old
 RefusalCause words old new untouched NeedsRestore = ⊥
 RefusalCause words old new untouched NoMemory = (c : Content) → old.content ≡ Some c → HoldsImage c.now new.content ⊎ WasPlayed old new c.now
 
--- a play that was made, with this text: its transcript, where the disk tells its content
+-- the disk states sizes that a device may have
+abbrev pub StatesSizes : Outside → Type 0
+StatesSizes new = (g : Geometry) × (new.stated ≡ Some g) × IsValid g
+
+-- A play that was made, with this text: the words asked for it, the source gave a script, the disk states valid sizes,
+-- and the text is the transcript, where the disk tells its content.
 abbrev pub IsPlayText : List (String Global) → Outside → Outside → List ℕ → Type 0
-IsPlayText words old new text = AskPlay words × ((c : Content) → old.content ≡ Some c → (p : WasPlayed old new c.now) × (text ≡ transcript_of p.run))
+IsPlayText words old new text = AskPlay words × GaveScript old.left new.left × StatesSizes new
+    × ((c : Content) → old.content ≡ Some c → (p : WasPlayed old new c.now) × (text ≡ transcript_of p.run))
 
 -- a refusal with this text: its line
 abbrev pub IsRefusalText : List (String Global) → Outside → Outside → Type 0 → Refusal → List ℕ → Type 0

@@ -14,7 +14,7 @@ returns-clause-played g c =
     let disk = c.run.result.1 in
     let old = outside (g.S.Source.left c.args.source.now) (g.S.Source.faults c.args.source.now) (g.D.Disk.stated c.args.disk) (g.D.Disk.content c.args.disk) (faults c.args.disk) in
     let new = outside (g.S.Source.left c.take_script.new.source) (g.S.Source.faults c.take_script.new.source) (g.D.Disk.stated disk) (g.D.Disk.content disk) (faults disk) in
-    played c.args.words.now old new (c.in-Some-Play.field-0, c.in-Some-Play.ensures.found) given core.geometry c.run.ensures.sizes c.in-Ok.script c.in-Ok.ensures.whole (λ text. text.items) c.run.result.0
+    played c.args.words.now old new (c.in-Some-Play.field-0, c.in-Some-Play.ensures.found) given core.geometry c.run.ensures.sizes c.in-Ok-open.ensures.valid c.in-Ok.script c.in-Ok.ensures.whole (λ text. text.items) c.run.result.0
     (λ k. (disk ≡ core.disk) ⊎ WasRun core.geometry c.in-Ok.script (opening k.now) (g.D.Disk.content disk) (faults c.args.disk) (faults disk))
     (λ k is. c.run.ensures.run (faults c.args.disk) (opening k.now) c.in-Ok-open.ensures.faults (rw c.in-Ok-open.ensures.fresh.0 at (c.in-Ok-open.ensures.state k is)))
 
@@ -27,7 +27,7 @@ returns-clause-refused g c =
     let disk = c.run.result.1 in
     let old = outside (g.S.Source.left c.args.source.now) (g.S.Source.faults c.args.source.now) (g.D.Disk.stated c.args.disk) (g.D.Disk.content c.args.disk) (faults c.args.disk) in
     let new = outside (g.S.Source.left c.take_script.new.source) (g.S.Source.faults c.take_script.new.source) (g.D.Disk.stated disk) (g.D.Disk.content disk) (faults disk) in
-    refused c.args.words.now old new (c.in-Some-Play.field-0, c.in-Some-Play.ensures.found) given core.geometry c.run.ensures.sizes c.in-Ok.script c.in-Ok.ensures.whole c.run.result.0 (disk ≡ c.args.disk) (disk ≡ core.disk)
+    refused c.args.words.now old new (c.in-Some-Play.field-0, c.in-Some-Play.ensures.found) given core.geometry c.run.ensures.sizes c.in-Ok-open.ensures.valid c.in-Ok.script c.in-Ok.ensures.whole c.run.result.0 (disk ≡ c.args.disk) (disk ≡ core.disk)
     (λ k text. (run : WasRun core.geometry c.in-Ok.script (opening k.now) (g.D.Disk.content disk) (faults c.args.disk) (faults disk)) × (text.items ≡ transcript_of run))
     c.run.ensures.memory
     (λ k is same. kept_image g.D.Disk.content core.disk disk k same (c.in-Ok-open.ensures.unchanged k is))

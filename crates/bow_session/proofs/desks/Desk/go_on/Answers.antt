@@ -49,7 +49,7 @@ returns-in-Wrote-clause-fits g c =
       room = facts.1;
       moments = (let now : c.note.new.self.core.calls ≡ c.step.new.self.calls = ap (λ x. x.calls) c.note.ensures.core in
           let later : s.core.calls ≤ c.step.new.self.calls = omega (arith, c.in-Wrote.ensures.calls) in rw (c.note.ensures.moments, c.note.ensures.journal, now) (moments_push _ _ _ _ _ later c.requires.fits.moments));
-      reads = (let number : c.len-number.result ≡ length s.answered.items = search rules in
+      reads = (let number : c.number-number.result ≡ length s.answered.items = search rules in
           reads_push s.core.geometry.block_size _ s.script _ s.journal.items _ (items.Wrote 0 (length s.answered.items) (c.args.hand.first + c.in-Wrote.index)) (ap (λ x. x.geometry.block_size) c.note.ensures.core ∙ ap (λ x. x.block_size) c.in-Wrote.ensures.geometry) c.note.ensures.script (rw (c.note.ensures.journal, number) refl) c.requires.fits.reads tt);
     }
 
@@ -64,7 +64,7 @@ returns-in-Wrote-clause-fewer g c =
 pub returns-in-Wrote-clause-played : goal.returns-in-Wrote-clause-played
 returns-in-Wrote-clause-played g c start p =
     let s = c.args.self.now in
-    let number : c.len-number.result ≡ length s.answered.items = search rules in
+    let number : c.number-number.result ≡ length s.answered.items = search rules in
     let item : c.note.new.self.journal.items ≡ s.journal.items ++ items.Wrote 0 (length s.answered.items) (c.args.hand.first + c.in-Wrote.index) ∷ [] = rw (c.note.ensures.journal, number) refl in
     let fit = subst (λ (x : Option Hand). IsFit s.core.geometry (lane_lines s.script 0) s.answered.items s.pending.items x s.core.waiting s.core.admitted) c.requires.some c.requires.fits.fit in
     let next = step_wrote s.core.geometry s.core.phase c.step.new.self.phase (g.D.Disk.content s.core.disk) (g.D.Disk.content c.step.new.self.disk) s.script s.answered.items s.pending.items c.args.hand s.core.waiting c.step.new.self.waiting s.core.admitted s.journal.items start (turns.Map c.args.hand.ticket) c.in-Wrote.ticket c.in-Wrote.index c.in-Wrote.ensures.trim c.in-Wrote.ensures.phase fit c.in-Wrote.ensures.gives c.in-Wrote.ensures.event p in
@@ -82,7 +82,7 @@ returns-in-Got-clause-fits g c =
       room = facts.1;
       moments = (let now : c.note-in-Got.new.self.core.calls ≡ c.step.new.self.calls = ap (λ x. x.calls) c.note-in-Got.ensures.core in
           let later : s.core.calls ≤ c.step.new.self.calls = omega (arith, c.in-Got.ensures.calls) in rw (c.note-in-Got.ensures.moments, c.note-in-Got.ensures.journal, now) (moments_push _ _ _ _ _ later c.requires.fits.moments));
-      reads = (let number : c.len-number.result ≡ length s.answered.items = search rules in
+      reads = (let number : c.number-number.result ≡ length s.answered.items = search rules in
           reads_push s.core.geometry.block_size _ s.script _ s.journal.items _ (items.Got 0 (length s.answered.items) (c.args.hand.first + c.in-Got.index)) (ap (λ x. x.geometry.block_size) c.note-in-Got.ensures.core ∙ ap (λ x. x.block_size) c.in-Got.ensures.geometry) c.note-in-Got.ensures.script (rw (c.note-in-Got.ensures.journal, number) refl) c.requires.fits.reads (got_reads s.core.geometry s.script (length s.answered.items) c.args.hand s.core.waiting c.step.new.self.waiting (turns.Map c.args.hand.ticket) c.in-Got.ticket c.in-Got.index (subst (λ (x : Option Hand). IsInHand s.core.geometry (lane_lines s.script 0) (length s.answered.items) x s.core.waiting) c.requires.some c.requires.fits.fit.in_hand) c.in-Got.ensures.gives));
     }
 
@@ -97,7 +97,7 @@ returns-in-Got-clause-fewer g c =
 pub returns-in-Got-clause-played : goal.returns-in-Got-clause-played
 returns-in-Got-clause-played g c start p =
     let s = c.args.self.now in
-    let number : c.len-number.result ≡ length s.answered.items = search rules in
+    let number : c.number-number.result ≡ length s.answered.items = search rules in
     let item : c.note-in-Got.new.self.journal.items ≡ s.journal.items ++ items.Got 0 (length s.answered.items) (c.args.hand.first + c.in-Got.index) ∷ [] = rw (c.note-in-Got.ensures.journal, number) refl in
     let fit = subst (λ (x : Option Hand). IsFit s.core.geometry (lane_lines s.script 0) s.answered.items s.pending.items x s.core.waiting s.core.admitted) c.requires.some c.requires.fits.fit in
     let next = step_got s.core.geometry s.core.phase c.step.new.self.phase (g.D.Disk.content s.core.disk) (g.D.Disk.content c.step.new.self.disk) s.script s.answered.items s.pending.items c.args.hand s.core.waiting c.step.new.self.waiting s.core.admitted s.journal.items start (turns.Map c.args.hand.ticket) c.in-Got.ticket c.in-Got.index c.in-Got.ensures.trim c.in-Got.ensures.phase fit c.in-Got.ensures.gives c.in-Got.ensures.event p in
@@ -117,7 +117,7 @@ returns-in-Answered-clause-fits g c =
       room = facts.1;
       moments = (let now : c.note-in-Answered.new.self.core.calls ≡ c.step.new.self.calls = ap (λ x. x.calls) c.note-in-Answered.ensures.core in
           let later : s.core.calls ≤ c.step.new.self.calls = omega (arith, c.in-Answered.ensures.calls) in rw (c.note-in-Answered.ensures.moments, c.note-in-Answered.ensures.journal, now) (moments_push _ _ _ _ _ later c.requires.fits.moments));
-      reads = (let number : c.len-number.result ≡ length s.answered.items = search rules in
+      reads = (let number : c.number-number.result ≡ length s.answered.items = search rules in
           reads_push s.core.geometry.block_size _ s.script _ s.journal.items _ (items.Answered 0 (length s.answered.items) c.in-Answered.outcome) (ap (λ x. x.geometry.block_size) c.note-in-Answered.ensures.core ∙ ap (λ x. x.block_size) c.in-Answered.ensures.geometry) c.note-in-Answered.ensures.script (rw (c.note-in-Answered.ensures.journal, number) refl) c.requires.fits.reads tt);
     }
 
@@ -134,7 +134,7 @@ returns-in-Answered-clause-fewer g c =
 pub returns-in-Answered-clause-played : goal.returns-in-Answered-clause-played
 returns-in-Answered-clause-played g c start p =
     let s = c.args.self.now in
-    let number : c.len-number.result ≡ length s.answered.items = search rules in
+    let number : c.number-number.result ≡ length s.answered.items = search rules in
     let item : c.note-in-Answered.new.self.journal.items ≡ s.journal.items ++ items.Answered 0 (length s.answered.items) c.in-Answered.outcome ∷ [] = rw (c.note-in-Answered.ensures.journal, number) refl in
     let fit = subst (λ (x : Option Hand). IsFit s.core.geometry (lane_lines s.script 0) s.answered.items s.pending.items x s.core.waiting s.core.admitted) c.requires.some c.requires.fits.fit in
     let next = step_answered s.core.geometry s.core.phase c.step.new.self.phase (g.D.Disk.content s.core.disk) (g.D.Disk.content c.step.new.self.disk) s.script s.answered.items s.pending.items c.args.hand s.core.waiting c.step.new.self.waiting s.core.admitted s.journal.items start (turns.Map c.args.hand.ticket) c.in-Answered.ticket c.in-Answered.op c.in-Answered.outcome c.in-Answered.ensures.trim c.in-Answered.ensures.phase fit c.in-Answered.ensures.gives c.in-Answered.ensures.event p in
