@@ -6,16 +6,24 @@
 
 use bow_disk::FileDisk;
 use bow_tool::tool;
-use bow_units::{ReadSource, WriteSink};
+use bow_units::{NoMemory, ReadSource, WriteSink};
 use std::io;
 use std::process::ExitCode;
 
-fn main(rt: HostRuntime) -> io::Result<ExitCode> {
-    let alloc = rt.alloc();
-    let mut words = Vec::new(alloc);
-    for word in std::env::args(&rt)?.skip(1) {
-        words.push(word)?;
+fn main(rt: HostRuntime) -> ExitCode {
+    match run(&rt) {
+        Ok(status) => ExitCode::from(status),
+        Err(NoMemory) => {
+            let _ = println!(&rt; "no memory");
+            ExitCode::from(11)
+        }
     }
+}
+
+// Does what the words of the command line ask for, and gives the status.
+fn run(rt: &HostRuntime) -> Result<u8, NoMemory> {
+    let alloc = rt.alloc();
+    let words = words(rt)?;
     let image = match words.first() {
         Some(path) => path.clone()?,
         None => String::new(alloc),
@@ -24,11 +32,28 @@ fn main(rt: HostRuntime) -> io::Result<ExitCode> {
         Some(word) => block_size(word.as_str()),
         None => 512,
     };
-    let disk = FileDisk::new(rt.clone()?, image, block_size);
+    let Ok(files) = rt.clone() else {
+        return Err(NoMemory);
+    };
+    let disk = FileDisk::new(files, image, block_size);
     let mut source = ReadSource::new(rt.reader());
-    let mut sink = WriteSink::new(io::writer(&rt));
-    let ended = tool(alloc, &words, disk, &mut source, &mut sink);
-    Ok(ExitCode::from(ended.status))
+    let mut sink = WriteSink::new(io::writer(rt));
+    Ok(tool(alloc, &words, disk, &mut source, &mut sink).status)
+}
+
+// The words after the program's name, and none where one of them is no text.
+fn words(rt: &HostRuntime) -> Result<Vec<String>, NoMemory> {
+    let mut words = Vec::new(rt.alloc());
+    match std::env::args(rt) {
+        Ok(all) => {
+            for word in all.skip(1) {
+                words.push(word)?;
+            }
+            Ok(words)
+        }
+        Err(error) if error.kind() == io::ErrorKind::OutOfMemory => Err(NoMemory),
+        Err(_) => Ok(words),
+    }
 }
 
 // The block size that a word names, and 512 for any other word: the call refuses it.
