@@ -29,16 +29,20 @@ room block_size = (block_size - 28) / 24
 abbrev pub sectors : Geometry → ℕ
 sectors g = g.block_size / 512
 
+-- an entry in blocks
 abbrev pub backup_of : Geometry → Entry → Backup
 backup_of g e = record { source = e.source / sectors g; dest = e.dest / sectors g; count = e.size / g.block_size; sum = e.sum }
 
+-- a backup in sectors and bytes
 abbrev pub entry_of : Geometry → Backup → Entry
 entry_of g b = record { source = b.source * sectors g; dest = b.dest * sectors g; size = b.count * g.block_size; sum = b.sum }
 
+-- whether this magic is that of a log under restoration
 abbrev pub is_restoring : Magic → Bool
 is_restoring LogMagic = false
 is_restoring Restoring = true
 
+-- the magic of a log that is under restoration, or is not
 abbrev pub magic_of : Bool → Magic
 magic_of false = LogMagic
 magic_of true = Restoring

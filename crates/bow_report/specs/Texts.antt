@@ -12,6 +12,7 @@ use Rattle.bow_session.specs.declared.journals.Item.TheVariants.{Wrote, Got, Ans
 use Rattle.bow_session.specs.Contents.{content_in}
 use Rattle.bow_session.specs.Journal.{Asked}
 
+-- a phase as a line has it
 abbrev pub phase_text : Phase → List ℕ
 phase_text Trim = codes "trim"
 phase_text Arming = codes "arming"
@@ -19,6 +20,7 @@ phase_text Checkpoint = codes "checkpoint"
 phase_text Deciding = codes "deciding"
 phase_text Committed = codes "committed"
 
+-- an answer as a line has it
 abbrev pub outcome_text : Outcome → List ℕ
 outcome_text outcomes.Done = codes "done"
 outcome_text outcomes.Data = codes "data"

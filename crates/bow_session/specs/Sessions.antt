@@ -43,14 +43,17 @@ count_of answered lane = length (slice_index_or answered lane [])
 abbrev pub answer_at : List (List Op) → ℕ → ℕ → Op
 answer_at answered lane n = slice_index_or (slice_index_or answered lane []) n ops.Flush
 
+-- the bytes in the buffer of the request that waits
 abbrev pub waiting_bytes : Option Waiting → List ℕ
 waiting_bytes None = []
 waiting_bytes (Some w) = bytes_of w.op
 
+-- how many blocks of it are done
 abbrev pub waiting_done : Option Waiting → ℕ
 waiting_done None = 0
 waiting_done (Some w) = w.done
 
+-- how many requests wait: one, or none
 abbrev pub waiting_count : Option Waiting → ℕ
 waiting_count None = 0
 waiting_count (Some w) = 1
@@ -64,6 +67,7 @@ abbrev pub AgreesThere : ℕ → (ℕ → ℕ → List ℕ) → ℕ → Option W
 AgreesThere size buffer n None = Unit {0}
 AgreesThere size buffer n (Some w) = take (w.done * size) (buffer 0 n) ≡ take (w.done * size) (bytes_of w.op)
 
+-- these bytes are those of the answered requests, and of the one that waits as far as it is done
 pub record Agrees (size : ℕ) (buffer : ℕ → ℕ → List ℕ) (answered : List (List Op)) (waiting : Option Waiting) : Type 0 where
   pub before : (lane n : ℕ) → n < count_of answered lane → buffer lane n ≡ bytes_of (answer_at answered lane n)
   pub there : AgreesThere size buffer (count_of answered 0) waiting
@@ -83,6 +87,7 @@ pub record Played (g : Geometry) (phase : Phase) (content : Option Content) (scr
   pub done : place.done 0 ≡ waiting_done waiting
   pub alone : (lane : ℕ) → 0 < lane → place.done lane ≡ 0
 
+-- the session was played from this state on
 abbrev pub HasPlayed : {D : Type 0} → (D → Option Content) → Run D → Flat → Type 0
 HasPlayed content s start = Played s.core.geometry s.core.phase (content s.core.disk) s.script s.answered s.core.waiting s.journal start
 
@@ -117,6 +122,7 @@ Records faults old new = ((new.journal ≡ old.journal) × (new.moments ≡ old.
 abbrev pub HasAdmitted : {D : Type 0} → Run D → ℕ → Type 0
 HasAdmitted s before = s.core.admitted ≡ before + count_of s.answered 0 + waiting_count s.core.waiting
 
+-- the steps that the request that waits has taken already
 abbrev pub spent : Option Waiting → ℕ
 spent None = 0
 spent (Some w) = w.done + 1
@@ -125,6 +131,7 @@ spent (Some w) = w.done + 1
 abbrev pub steps_left : List Line → ℕ → Option Waiting → ℕ
 steps_left lines n waiting = sum_by (λ line. blocks_of line + 2) (drop n lines) - spent waiting
 
+-- at least as many steps as the session has left to make
 abbrev pub turns_left : {D : Type 0} → Run D → ℕ
 turns_left s = steps_left (lane_lines s.script 0) (count_of s.answered 0) s.core.waiting
 

@@ -33,6 +33,7 @@ pub record Outside : Type 0 where
   pub content : Option Content
   pub disk_faults : ℕ
 
+-- what lies outside, of these parts in this order
 abbrev pub outside : Option (List ℕ) → ℕ → Option Geometry → Option Content → ℕ → Outside
 outside left source_faults stated content disk_faults = record { left = left; source_faults = source_faults; stated = stated; content = content; disk_faults = disk_faults }
 

@@ -6,6 +6,7 @@ use Rattle.bow_core.specs.declared.device.OpenFault.TheVariants as opens
 use Rattle.bow_tool.specs.declared.refusals.Refusal.{Refusal}
 use Rattle.bow_tool.specs.declared.refusals.Refusal.TheVariants.{BadWords, BadScript, SourceFault, DiskFault, NeedsRestore, NoMemory, BadGeometry}
 
+-- the status with which a refusal ends
 abbrev pub status_of : Refusal → ℕ
 status_of BadWords = 2
 status_of (BadScript line) = 3
@@ -22,6 +23,7 @@ refusal_for opens.NeedsRestore = NeedsRestore
 refusal_for opens.DiskFault = DiskFault
 refusal_for opens.NoMemory = NoMemory
 
+-- what its line says
 abbrev pub refusal_text : Refusal → List ℕ
 refusal_text BadWords = codes "bad words"
 refusal_text (BadScript line) = codes "bad script at line " ++ decimal line
