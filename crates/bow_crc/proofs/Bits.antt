@@ -1,8 +1,9 @@
 -- The register's steps: linear, and no two registers below 2 ^ 32 lead to the same.
-use Rattle.std.proofs.Common.{ℕ, zero, suc, ◌*◌, ◌/◌, ◌%◌, ◌^◌, ◌<◌, ◌≡◌, true, false, cond, eqb, refl, sym, ap, ap₂, ◌∙◌, subst, arith, ◌⊎◌, inl, inr, mul_assoc, pow-suc}
+use Rattle.std.proofs.Common.{ℕ, zero, suc, ◌*◌, ◌/◌, ◌%◌, ◌^◌, ◌<◌, ◌≡◌, true, false, cond, eqb, refl, sym, ap, ap₂, ◌∙◌, subst, arith, ◌⊎◌, inl, inr, mul_assoc, pow-suc, add-zero, ◌+◌, ◌-◌}
 use Rattle.std.specs.Prelude.{bit_xor, bit_and}
 use Rattle.std.specs.Int.Bits.{xor_assoc, xor_self, xor_zero_r, xor_comm, xor_shr, xor_mod, xor_lt, xor_shifted}
-use Rattle.std.proofs.lemmas.Nat.{and_mask, div-add-mod'}
+use Rattle.std.proofs.lemmas.Nat.{and_mask, div-add-mod', pow-add}
+use Rattle.std.proofs.Math.Nat.{div-div-eq-div-mul}
 use Rattle.bow_crc.specs.Crc.{bit_out, bits_out, byte_in}
 
 swap : (a b x y : ℕ) → bit_xor (bit_xor a b) (bit_xor x y) ≡ bit_xor (bit_xor a x) (bit_xor b y)
@@ -41,9 +42,6 @@ pub bits_pair : (n a b : ℕ) → bits_out n (bit_xor a b) ≡ bit_xor (bits_out
 bits_pair zero a b = refl
 bits_pair (suc n) a b = ap (bits_out n) (out_pair a b) ∙ bits_pair n (bit_out a) (bit_out b)
 
-pub bits_step : (n m r : ℕ) → n ≡ suc m → bits_out n r ≡ bits_out m (bit_out r)
-bits_step n m r e = ap (λ (k : ℕ). bits_out k r) e
-
 -- bits that are not near the low end go down whole
 high_out : (k : ℕ) → bit_out (k * 2) ≡ k
 high_out k =
@@ -58,17 +56,54 @@ bits_high (suc n) h =
     let e : h * 2 ^ suc n ≡ h * 2 ^ n * 2 = ap (λ (x : ℕ). h * x) p ∙ sym (mul_assoc h (2 ^ n) 2) in
     ap (λ (x : ℕ). bits_out n (bit_out x)) e ∙ ap (bits_out n) (high_out (h * 2 ^ n)) ∙ bits_high n h
 
--- eight bits at once: the high bits go down, and the low ones choose a row of the table
-pub byte_by_row : (r byte row : ℕ) → byte < 256 → row ≡ bits_out 8 (bit_and (bit_xor r byte) 255) → bit_xor (r / 256) row ≡ byte_in r byte
-unfolding byte_in
-byte_by_row r byte row h is =
-    let x = bit_xor r byte in
-    let low : bit_and x 255 ≡ x % 256 = and_mask x 8 in
+-- ---- a bit of a byte at a time
+
+-- a register takes the lowest bit of what is still to come, and the rest waits
+bit_taken : (r x : ℕ) → bit_out (bit_xor r x) ≡ bit_xor (bit_out (bit_xor r (bit_and x 1))) (x / 2)
+bit_taken r x =
+    let parts : bit_xor (x / 2 * 2 ^ 1) (x % 2) ≡ x = xor_shifted (x / 2) 1 (x % 2) (omega arith) ∙ div-add-mod' x 2 in
+    ap bit_out (ap (bit_xor r) (sym parts ∙ xor_comm (x / 2 * 2) (x % 2)) ∙ sym (xor_assoc r (x % 2) (x / 2 * 2)))
+    ∙ out_pair (bit_xor r (x % 2)) (x / 2 * 2)
+    ∙ ap₂ (λ (low high : ℕ). bit_xor (bit_out (bit_xor r low)) high) (sym (and_mask x 1)) (high_out (x / 2))
+
+pub bits_taken : (n m r byte i : ℕ) → n ≡ suc m
+    → bits_out m (bit_xor (bit_out (bit_xor r (bit_and (byte / 2 ^ i) 1))) (byte / 2 ^ (i + 1))) ≡ bits_out n (bit_xor r (byte / 2 ^ i))
+bits_taken n m r byte i e =
+    let rest : byte / 2 ^ (i + 1) ≡ byte / 2 ^ i / 2 = ap (λ (k : ℕ). byte / k) (pow-add 2 i 1) ∙ sym (div-div-eq-div-mul byte (2 ^ i) 2) in
+    ap (λ (x : ℕ). bits_out m (bit_xor (bit_out (bit_xor r (bit_and (byte / 2 ^ i) 1))) x)) rest
+    ∙ ap (bits_out m) (sym (bit_taken r (byte / 2 ^ i)))
+    ∙ sym (ap (λ (k : ℕ). bits_out k (bit_xor r (byte / 2 ^ i))) e)
+
+-- none is left after eight
+pub all_taken : (r byte i : ℕ) → byte < 256 → i ≡ 8 → bits_out (8 - i) (bit_xor r (byte / 2 ^ i)) ≡ r
+all_taken r byte i h e =
     let none : byte / 256 ≡ 0 = omega arith in
-    let high : x / 256 ≡ r / 256 = xor_shr r byte 8 ∙ ap (bit_xor (r / 256)) none ∙ xor_zero_r (r / 256) in
-    let parts : bit_xor (x / 256 * 2 ^ 8) (x % 256) ≡ x = xor_shifted (x / 256) 8 (x % 256) (omega arith) ∙ div-add-mod' x 256 in
-    ap₂ bit_xor (sym high) (is ∙ ap (bits_out 8) low) ∙ ap (λ (v : ℕ). bit_xor v (bits_out 8 (x % 256))) (sym (bits_high 8 (x / 256)))
-    ∙ sym (bits_pair 8 (x / 256 * 2 ^ 8) (x % 256)) ∙ ap (bits_out 8) parts
+    ap (λ (k : ℕ). bits_out (8 - k) (bit_xor r (byte / 2 ^ k))) e ∙ ap (bit_xor r) none ∙ xor_zero_r r
+
+-- ---- a byte at a time
+
+-- the high bits go down, and the low ones choose a row of a table
+pub byte_split : (r byte : ℕ) → byte_in r byte ≡ bit_xor (bits_out 8 (bit_xor byte (r % 256))) (r / 256)
+unfolding byte_in
+byte_split r byte =
+    let parts : bit_xor (r / 256 * 2 ^ 8) (r % 256) ≡ r = xor_shifted (r / 256) 8 (r % 256) (omega arith) ∙ div-add-mod' r 256 in
+    ap (bits_out 8) (xor_comm r byte ∙ ap (bit_xor byte) (sym parts ∙ xor_comm (r / 256 * 2 ^ 8) (r % 256)) ∙ sym (xor_assoc byte (r % 256) (r / 256 * 2 ^ 8)))
+    ∙ bits_pair 8 (bit_xor byte (r % 256)) (r / 256 * 2 ^ 8)
+    ∙ ap (bit_xor (bits_out 8 (bit_xor byte (r % 256)))) (bits_high 8 (r / 256))
+
+pub byte_by_row : (r byte row : ℕ) → row ≡ bits_out 8 (bit_xor byte (bit_and r 255)) → bit_xor row (r / 256) ≡ byte_in r byte
+byte_by_row r byte row is =
+    ap (λ (x : ℕ). bit_xor x (r / 256)) (is ∙ ap (λ (low : ℕ). bits_out 8 (bit_xor byte low)) (and_mask r 8)) ∙ sym (byte_split r byte)
+
+pub byte_pair : (x y byte : ℕ) → byte_in (bit_xor x y) byte ≡ bit_xor (bits_out 8 x) (byte_in y byte)
+unfolding byte_in
+byte_pair x y byte = ap (bits_out 8) (xor_assoc x y byte) ∙ bits_pair 8 x (bit_xor y byte)
+
+pub bits_add : (m n r : ℕ) → bits_out m (bits_out n r) ≡ bits_out (m + n) r
+bits_add m zero r = ap (λ (k : ℕ). bits_out k r) (sym (add-zero m))
+bits_add m (suc n) r =
+    let more : m + suc n ≡ suc (m + n) = omega arith in
+    bits_add m n (bit_out r) ∙ sym (ap (λ (k : ℕ). bits_out k r) more)
 
 -- ---- one from one
 

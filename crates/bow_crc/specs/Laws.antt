@@ -4,6 +4,7 @@ use Rattle.std.specs.List.{AllByRecursion as Each, concat}
 use Rattle.bow_crc.specs.Crc.{register, crc_of}
 use Rattle.bow_crc.specs.Sums.{sum_of, blocks_of}
 
+-- each number is a byte's
 abbrev pub AreBytes : List ℕ → Type 0
 AreBytes bytes = Each (λ byte. byte < 256) bytes
 

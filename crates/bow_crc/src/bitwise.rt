@@ -4,6 +4,7 @@ ghost use Rattle.bow_crc.specs.Crc.{bit_out, byte_in, crc_of};
 
 const POLYNOMIAL: u32 = 0xEDB8_8320;
 
+// Lets the lowest bit out.
 fn shift(register: u32) -> u32
     ensures { result ≡ bit_out register }
 {
@@ -14,13 +15,13 @@ fn shift(register: u32) -> u32
     }
 }
 
-#[tactic(auto, unfolding(crate::specs::Crc::byte_in))]
+// Takes the bits of a byte in, one after the other, the lowest first.
 fn add_byte(register: u32, byte: u8) -> u32
     ensures { result ≡ byte_in register byte }
 {
-    let mut register = register ^ byte as u32;
-    for _bit in 0..u8::BITS {
-        register = shift(register);
+    let mut register = register;
+    for index in 0..u8::BITS {
+        register = shift(register ^ (byte >> index & 1) as u32);
     }
     register
 }

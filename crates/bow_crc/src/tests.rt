@@ -9,6 +9,10 @@ fn both_forms_give_the_published_values(rt: HostRuntime) {
     for (bytes, want) in [
         (b"123456789".as_slice(), 0xCBF4_3926),
         (b"".as_slice(), 0),
+        (
+            b"The quick brown fox jumps over the lazy dog".as_slice(),
+            0x414F_A339,
+        ),
         (all.as_slice(), 0x2905_8C73),
     ] {
         assert_eq!(rt; crc(bytes), want, "bit by bit, {} bytes", bytes.len());
@@ -19,6 +23,16 @@ fn both_forms_give_the_published_values(rt: HostRuntime) {
             bytes.len()
         );
     }
+}
+
+// A block whose eight-byte groups count from 0. The wanted sum is that of Python's zlib.
+#[test]
+fn the_sum_of_the_first_entry(rt: HostRuntime) {
+    let mut bytes = [0; 512];
+    for group in 0..64usize {
+        bytes[8 * group] = group as u8;
+    }
+    assert_eq!(rt; entry_sum(0, &bytes, 512), 0x9480_DA6B);
 }
 
 // The wanted sums are those of Python's zlib.

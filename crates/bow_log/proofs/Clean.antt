@@ -1,8 +1,7 @@
 -- A block without a fault.
-use Rattle.std.proofs.Common.{◌≡◌, ℕ, zero, suc, ◌+◌, ◌-◌, ◌*◌, ◌^◌, ◌<◌, ◌≤◌, Bool, true, false, List, [], ◌∷◌, ◌++◌, length, take, drop, replicate, Option, Some, None, refl, sym, ap, ap₂, subst, ◌∙◌, arith, append_assoc, length-append, length-drop, inl, inr}
+use Rattle.std.proofs.Common.{◌≡◌, ℕ, zero, suc, ◌+◌, ◌-◌, ◌*◌, ◌<◌, ◌≤◌, Bool, true, false, List, [], ◌∷◌, ◌++◌, length, take, drop, replicate, Option, Some, None, refl, sym, ap, ap₂, subst, ◌∙◌, arith, append_assoc, length-drop, inl, inr}
 use Rattle.std.specs.Prelude.{flat_map, ◌==◌, ◌&&◌, ◌||◌, if◌then◌else◌, not, nat_lt, IsTrue, ◌⊎◌, ◌↔◌}
 use Rattle.std.specs.Int.{w16, w32, w64, to_le_bytes}
-use Rattle.std.specs.List.{AllByRecursion as Each}
 use Rattle.std.proofs.Math.Seq.{take-add}
 use Rattle.std.proofs.lemmas.List.{drop-drop, take-append-drop}
 use Rattle.bow_units.specs.declared.sizes.Geometry.{Geometry}
@@ -13,10 +12,10 @@ use Rattle.bow_log.specs.declared.logs.Magic.{Magic}
 use Rattle.bow_log.specs.declared.logs.Magic.TheVariants.{Log as LogMagic, Restoring}
 use Rattle.bow_log.specs.declared.faults.LogFault.{LogFault}
 use Rattle.bow_log.specs.declared.faults.LogFault.TheVariants.{NoMagic, Version, HeaderSize, BlockSize, Count, Tail, Sector0, Entry as BadEntry}
-use Rattle.bow_log.specs.Spelling.{Fields, Fits, EntryFits, magic_number, header, entry_text, spell}
+use Rattle.bow_log.specs.Spelling.{Fields, Fits, magic_number, header, entry_text, spell}
 use Rattle.bow_log.specs.Generations.{room}
 use Rattle.bow_log.specs.Rules.{is_current, keeps_rules, entry_fault, IsLog}
-use Rattle.bow_log.specs.Faults.{number_at, entry_at, entries_at, count_in, begins_with, are_zero, parts_of, fault_of, log_of}
+use Rattle.bow_log.specs.Faults.{number_at, entry_at, entries_at, count_in, begins_with, are_zero, parts_of, fault_of}
 use Rattle.bow_log.proofs.Numbers.{IsBytes, back_2, back_4, back_8, again_4}
 use Rattle.bow_log.proofs.Spelled.{Reads, reads, either_magic, magic_again, parts_again}
 

@@ -1,6 +1,6 @@
 -- Sectors and blocks.
-use Rattle.std.proofs.Common.{◌≡◌, ℕ, zero, suc, ◌+◌, ◌-◌, ◌*◌, ◌/◌, ◌%◌, ◌^◌, ◌<◌, ◌≤◌, Bool, true, false, List, [], ◌∷◌, length, map, Option, Some, None, refl, sym, ap, ap₂, subst, ◌∙◌, arith, inl, inr}
-use Rattle.std.specs.Prelude.{◌==◌, ◌&&◌, ◌||◌, if◌then◌else◌, is_none, nat_lt, nat_le, IsTrue, ◌⊎◌, ◌↔◌}
+use Rattle.std.proofs.Common.{◌≡◌, ℕ, zero, suc, ◌+◌, ◌*◌, ◌/◌, ◌%◌, ◌^◌, ◌<◌, ◌≤◌, Bool, true, false, List, [], ◌∷◌, length, map, Option, Some, None, refl, sym, ap, ap₂, subst, ◌∙◌, arith, inl, inr}
+use Rattle.std.specs.Prelude.{◌==◌, ◌&&◌, ◌||◌, if◌then◌else◌, is_none, nat_lt, nat_le, ◌⊎◌}
 use Rattle.std.specs.List.{AllByRecursion as Each}
 use Rattle.std.proofs.Math.Nat.{mul-div_cancel, mul-mod_left}
 use Rattle.std.proofs.lemmas.Nat.{div-add-mod', mul-lt}
@@ -13,11 +13,11 @@ use Rattle.bow_log.specs.declared.logs.Magic.TheVariants.{Log as LogMagic, Resto
 use Rattle.bow_log.specs.declared.faults.LogFault.{LogFault}
 use Rattle.bow_log.specs.declared.faults.LogFault.TheVariants.{Entry as BadEntry}
 use Rattle.bow_log.specs.Spelling.{Fields, Fits, EntryFits, spell}
-use Rattle.bow_log.specs.Generations.{room, Backup, Generation, sectors, backup_of, entry_of, is_restoring, magic_of, generation_of, fields_of, IsBackup, StartsWith0, IsGeneration, GenerationFits}
-use Rattle.bow_log.specs.Rules.{begins_block, is_current, is_inside, are_apart, has_own_source, is_backup, keeps_rules, entry_fault, IsLog}
+use Rattle.bow_log.specs.Generations.{Backup, Generation, sectors, backup_of, entry_of, is_restoring, magic_of, generation_of, fields_of, IsBackup, StartsWith0, IsGeneration, GenerationFits}
+use Rattle.bow_log.specs.Rules.{begins_block, is_inside, are_apart, has_own_source, is_backup, keeps_rules, entry_fault, IsLog}
 use Rattle.bow_log.specs.Faults.{fault_of, parts_of}
-use Rattle.bow_log.specs.Laws.{generation_in}
-use Rattle.bow_log.proofs.Clean.{Sized, sized, both, either, number_is, clean, no_fault, log_is, only_reading, room_fits}
+use Rattle.bow_log.specs.Spelled.{generation_in}
+use Rattle.bow_log.proofs.Clean.{sized, both, either, number_is, clean, log_is, only_reading, room_fits}
 
 -- ---- tests
 

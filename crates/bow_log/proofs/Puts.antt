@@ -1,5 +1,5 @@
 -- Bytes put one part after the other.
-use Rattle.std.proofs.Common.{ℕ, ◌+◌, ◌-◌, ◌*◌, ◌≡◌, List, [], ◌∷◌, ◌++◌, length, take, drop, replicate, refl, sym, ap, ◌∙◌, arith, append_assoc}
+use Rattle.std.proofs.Common.{ℕ, ◌+◌, ◌≡◌, List, ◌++◌, length, take, sym, ap, ◌∙◌, arith, append_assoc}
 
 -- one part more
 pub next : (mid end : ℕ) (new old front so_far bytes text : List ℕ) → take (mid + length bytes) new ≡ take mid old ++ bytes → bytes ≡ text → mid + length text ≡ end

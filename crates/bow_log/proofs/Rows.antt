@@ -1,9 +1,8 @@
 -- Entries of a block, one after the other.
-use Rattle.std.proofs.Common.{ℕ, suc, ◌+◌, ◌-◌, ◌*◌, ◌≡◌, Bool, true, false, List, [], ◌∷◌, ◌++◌, Option, Some, refl, sym, ap, ap₂, ◌∙◌, arith, append_assoc}
+use Rattle.std.proofs.Common.{ℕ, suc, ◌+◌, ◌≡◌, Bool, true, false, List, [], ◌∷◌, ◌++◌, Some, refl, sym, ap, ◌∙◌, append_assoc}
 use Rattle.std.specs.Prelude.{if◌then◌else◌}
 use Rattle.bow_units.specs.declared.sizes.Geometry.{Geometry}
 use Rattle.bow_log.specs.declared.entries.Entry.{Entry}
-use Rattle.bow_log.specs.declared.faults.LogFault.{LogFault}
 use Rattle.bow_log.specs.declared.faults.LogFault.TheVariants.{Entry as BadEntry}
 use Rattle.bow_log.specs.Rules.{keeps_rules, entry_fault}
 use Rattle.bow_log.specs.Faults.{entry_at, entries_at}

@@ -1,18 +1,14 @@
 -- What a spelled log reads as.
-use Rattle.std.proofs.Common.{◌≡◌, ℕ, zero, suc, ◌+◌, ◌-◌, ◌*◌, ◌^◌, ◌<◌, ◌≤◌, Bool, true, false, List, [], ◌∷◌, ◌++◌, length, take, drop, replicate, Option, Some, None, refl, sym, ap, ap₂, subst, ◌∙◌, arith, append_assoc, length-append}
-use Rattle.std.specs.Prelude.{flat_map, ◌==◌, ◌&&◌, ◌||◌, if◌then◌else◌, not, nat_lt, IsTrue}
+use Rattle.std.proofs.Common.{◌≡◌, ℕ, zero, suc, ◌+◌, ◌-◌, ◌*◌, ◌^◌, ◌<◌, true, List, [], ◌∷◌, ◌++◌, length, drop, replicate, refl, sym, ap, ap₂, ◌∙◌, arith, append_assoc, length-append}
+use Rattle.std.specs.Prelude.{flat_map, ◌==◌, ◌||◌, if◌then◌else◌}
 use Rattle.std.specs.List.{AllByRecursion as Each}
-use Rattle.std.specs.Int.{w16, w32, w64, to_le_bytes}
+use Rattle.std.specs.Int.{w16, w32, w64}
 use Rattle.std.proofs.lemmas.List.{drop_at}
-use Rattle.bow_units.specs.declared.sizes.Geometry.{Geometry}
 use Rattle.bow_log.specs.declared.entries.Entry.{Entry}
 use Rattle.bow_log.specs.declared.logs.Magic.{Magic}
 use Rattle.bow_log.specs.declared.logs.Magic.TheVariants.{Log as LogMagic, Restoring}
-use Rattle.bow_log.specs.declared.faults.LogFault.{LogFault}
 use Rattle.bow_log.specs.Spelling.{Fields, Fits, EntryFits, magic_number, header, entry_text, spell}
-use Rattle.bow_log.specs.Generations.{room}
-use Rattle.bow_log.specs.Rules.{is_current, entry_fault, IsLog}
-use Rattle.bow_log.specs.Faults.{number_at, entry_at, entries_at, count_in, begins_with, are_zero, parts_of, fault_of}
+use Rattle.bow_log.specs.Faults.{number_at, entry_at, entries_at, count_in, are_zero, parts_of}
 use Rattle.bow_log.proofs.Numbers.{again_4, again_8, past}
 
 entry_again : (e : Entry) (at : ℕ) (front more : List ℕ) → length front ≡ at → EntryFits e → entry_at at (front ++ (entry_text e ++ more)) ≡ e

@@ -1,5 +1,5 @@
 -- What a block spells, and its first fault where it spells no log.
-use Rattle.std.specs.Prelude.{ℕ, zero, suc, ◌+◌, ◌*◌, ◌==◌, ◌&&◌, ◌||◌, Bool, true, not, nat_lt, nat_le, if◌then◌else◌, List, [], ◌∷◌, take, drop, Option, Some, None, is_none}
+use Rattle.std.specs.Prelude.{ℕ, zero, suc, ◌+◌, ◌*◌, ◌==◌, ◌&&◌, ◌||◌, Bool, true, not, nat_lt, if◌then◌else◌, List, [], ◌∷◌, take, drop, Option, Some, None, is_none}
 use Rattle.std.specs.Int.{Width, w16, w32, w64, byte_len, from_le_bytes}
 use Rattle.bow_units.specs.declared.sizes.Geometry.{Geometry}
 use Rattle.bow_log.specs.declared.entries.Entry.{Entry}
@@ -11,10 +11,11 @@ use Rattle.bow_log.specs.Spelling.{Fields, magic_number}
 use Rattle.bow_log.specs.Generations.{room}
 use Rattle.bow_log.specs.Rules.{is_current, entry_fault}
 
--- the number of this width at this byte
+-- the little-endian number of this width that begins at this byte
 unfoldable pub number_at : Width → ℕ → List ℕ → ℕ
 number_at w at block = from_le_bytes w (take (byte_len w) (drop at block))
 
+-- the entry whose 24 bytes begin at this byte
 abbrev pub entry_at : ℕ → List ℕ → Entry
 entry_at at block = record { source = number_at w64 at block; dest = number_at w64 (at + 8) block; size = number_at w32 (at + 16) block; sum = number_at w32 (at + 20) block }
 
@@ -23,9 +24,11 @@ abbrev pub entries_at : ℕ → ℕ → List ℕ → List Entry
 entries_at zero at block = []
 entries_at (suc n) at block = entry_at at block ∷ entries_at n (at + 24) block
 
+-- how many entries the block says that it has
 abbrev pub count_in : List ℕ → ℕ
 count_in block = number_at w32 12 block
 
+-- its first four bytes are this magic
 abbrev pub begins_with : Magic → List ℕ → Bool
 begins_with magic block = number_at w32 0 block == magic_number magic
 
@@ -34,7 +37,7 @@ abbrev pub are_zero : List ℕ → Bool
 are_zero [] = true
 are_zero (byte ∷ bytes) = (byte == 0) && are_zero bytes
 
--- what stands in the places of a log's fields
+-- what stands in the places of a log's fields, whatever faults the block has
 abbrev pub parts_of : List ℕ → Fields
 parts_of block = record {
   magic = if begins_with Restoring block then Restoring else LogMagic;
@@ -44,7 +47,7 @@ parts_of block = record {
   entries = entries_at (count_in block) 28 block;
 }
 
--- the first fault of a block, or none
+-- the first fault of a block, in the order of the faults, or none
 unfoldable pub fault_of : Geometry → List ℕ → Option LogFault
 fault_of g block =
     if not (begins_with LogMagic block || begins_with Restoring block) then Some NoMagic

@@ -7,14 +7,16 @@ use Rattle.bow_log.specs.declared.logs.Magic.{Magic}
 use Rattle.bow_log.specs.declared.logs.Magic.TheVariants.{Log as LogMagic, Restoring}
 use Rattle.bow_log.specs.Spelling.{Fields}
 
--- a run of blocks, where its content was put, and the sum of it
+-- a backup: a run of `count` blocks from the block `source` on, whose content was put at the blocks from
+-- `dest` on, and the sum of that content by the numbers of the source
 pub record Backup : Type 0 where
   pub source : ℕ
   pub dest : ℕ
   pub count : ℕ
   pub sum : ℕ
 
--- a log, where the current block 0 lies, and its backups, the oldest first
+-- a generation, which one log keeps: whether it is under restoration, its number in the chain, the block
+-- at which the content that block 0 has for users lies, and its backups, the oldest first
 pub record Generation : Type 0 where
   pub restoring : Bool
   pub sequence : ℕ
@@ -25,15 +27,15 @@ pub record Generation : Type 0 where
 abbrev pub room : ℕ → ℕ
 room block_size = (block_size - 28) / 24
 
--- how many sectors of 512 bytes a block has
+-- how many sectors of 512 bytes a block of the device has
 abbrev pub sectors : Geometry → ℕ
 sectors g = g.block_size / 512
 
--- an entry in blocks
+-- the backup that an entry says, in blocks
 abbrev pub backup_of : Geometry → Entry → Backup
 backup_of g e = record { source = e.source / sectors g; dest = e.dest / sectors g; count = e.size / g.block_size; sum = e.sum }
 
--- a backup in sectors and bytes
+-- the entry that says a backup, in sectors and bytes
 abbrev pub entry_of : Geometry → Backup → Entry
 entry_of g b = record { source = b.source * sectors g; dest = b.dest * sectors g; size = b.count * g.block_size; sum = b.sum }
 
@@ -47,11 +49,11 @@ abbrev pub magic_of : Bool → Magic
 magic_of false = LogMagic
 magic_of true = Restoring
 
--- the generation that a log is
+-- the generation that a log keeps
 abbrev pub generation_of : Geometry → Fields → Generation
 generation_of g log = record { restoring = is_restoring log.magic; sequence = log.sequence; current = log.sector0 / sectors g; entries = map (backup_of g) log.entries }
 
--- the log that a generation is
+-- the log that keeps a generation
 abbrev pub fields_of : Geometry → Generation → Fields
 fields_of g x = record { magic = magic_of x.restoring; block_size = g.block_size; sequence = x.sequence; sector0 = x.current * sectors g; entries = map (entry_of g) x.entries }
 
@@ -68,7 +70,8 @@ abbrev pub StartsWith0 : List Backup → Type 0
 StartsWith0 [] = ⊥
 StartsWith0 (b ∷ bs) = (b.source ≡ 0) × (b.count ≡ 1) × Each (λ other. 0 < other.source) bs
 
--- a generation that a block of the device can spell
+-- a generation of this device, which its block 0 has room for: the current block 0 lies on the device and
+-- not at block 0, and each backup keeps the rules
 pub record IsGeneration (g : Geometry) (x : Generation) : Type 0 where
   pub few : length x.entries ≤ room g.block_size
   pub current_not_0 : 0 < x.current
@@ -76,7 +79,7 @@ pub record IsGeneration (g : Geometry) (x : Generation) : Type 0 where
   pub each : Each (IsBackup g) x.entries
   pub start : StartsWith0 x.entries
 
--- its sequence and sums fit their places
+-- its sequence and its sums fit their places in a log
 pub record GenerationFits (x : Generation) : Type 0 where
   pub sequence : x.sequence < 2 ^ 32
   pub sums : Each (λ b. b.sum < 2 ^ 32) x.entries

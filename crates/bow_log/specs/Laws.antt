@@ -1,15 +1,12 @@
 -- What follows from the definitions.
-use Rattle.std.specs.Prelude.{◌≡◌, ◌↔◌, ℕ, List, Option, Some, None, is_none, if◌then◌else◌}
+use Rattle.std.specs.Prelude.{◌≡◌, ◌↔◌, ℕ, List, Some, None}
 use Rattle.bow_units.specs.declared.sizes.Geometry.{Geometry}
 use Rattle.bow_units.specs.Sizes.{IsValid}
 use Rattle.bow_log.specs.Spelling.{Fields, Fits, spell}
 use Rattle.bow_log.specs.Generations.{Generation, IsGeneration, GenerationFits, generation_of, fields_of}
 use Rattle.bow_log.specs.Rules.{IsLog}
-use Rattle.bow_log.specs.Faults.{fault_of, parts_of}
-
--- the generation that a block spells, or none
-abbrev pub generation_in : Geometry → List ℕ → Option Generation
-generation_in g block = if is_none (fault_of g block) then Some (generation_of g (parts_of block)) else None
+use Rattle.bow_log.specs.Faults.{fault_of}
+use Rattle.bow_log.specs.Spelled.{generation_in}
 
 -- a log is valid exactly where its spelling has no fault
 abbrev pub SpellingIsClean : Type 0

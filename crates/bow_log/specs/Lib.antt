@@ -2,4 +2,5 @@ pub mod Spelling
 pub mod Generations
 pub mod Rules
 pub mod Faults
+pub mod Spelled
 pub mod Laws

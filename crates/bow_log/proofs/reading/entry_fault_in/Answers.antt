@@ -1,4 +1,4 @@
-use Rattle.std.proofs.Common.{◌≡◌, ◌+◌, ◌-◌, ◌*◌, suc, sym, ◌∙◌, arith, rules}
+use Rattle.std.proofs.Common.{◌≡◌, ◌+◌, ◌-◌, suc, ◌∙◌, arith, rules}
 use Rattle.bow_log.proofs.Rows.{fault_here, fault_on}
 use Rattle.bow_log.proofs.reading.entry_fault_in.Goals as goal
 

@@ -1,4 +1,4 @@
-use Rattle.std.proofs.Common.{◌≡◌, ◌+◌, ◌-◌, ◌*◌, suc, length, ◌∙◌, arith, rules}
+use Rattle.std.proofs.Common.{◌≡◌, ◌+◌, ◌-◌, ◌*◌, suc, arith}
 use Rattle.bow_log.proofs.Rows.{pushed}
 use Rattle.bow_log.proofs.reading.read_entries.Goals as goal
 

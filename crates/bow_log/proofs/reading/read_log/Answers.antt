@@ -1,6 +1,5 @@
-use Rattle.std.proofs.Common.{◌≡◌, ℕ, ◌+◌, ◌*◌, ◌≤◌, List, length, None, sym, ap, subst, ◌∙◌, arith, rules}
+use Rattle.std.proofs.Common.{sym, ap, subst, ◌∙◌, arith, rules}
 use Rattle.bow_log.specs.Spelling.{spell}
-use Rattle.bow_log.specs.Faults.{fault_of, parts_of}
 use Rattle.bow_log.specs.Rules.{IsLog}
 use Rattle.bow_log.proofs.Clean.{clean, room_fits, sized, spelled, log_is, only_reading, no_magic_is, magic_tested}
 use Rattle.bow_log.proofs.reading.read_log.Goals as goal

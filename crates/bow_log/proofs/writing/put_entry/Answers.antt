@@ -1,4 +1,4 @@
-use Rattle.std.proofs.Common.{◌≡◌, ◌+◌, [], ◌++◌, take, refl, sym, arith, append-nil}
+use Rattle.std.proofs.Common.{◌+◌, [], ◌++◌, take, refl, sym, arith, append-nil}
 use Rattle.std.specs.Int.{w32, w64, to_le_bytes}
 use Rattle.bow_log.proofs.Puts.{next}
 use Rattle.bow_log.proofs.writing.put_entry.Goals as goal
