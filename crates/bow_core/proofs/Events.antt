@@ -7,8 +7,8 @@ use Rattle.std.proofs.lemmas.List.Elements.{Contains-push, Contains-push_cases, 
 use Rattle.bow_disk.specs.Disk.{Content, IsCrash, IsShaped, Same, Written, Offered, Flushed, Goes, TimeGoes, offered}
 use Rattle.bow_units.specs.declared.requests.Phase.{Phase}
 use Rattle.bow_units.specs.declared.requests.Phase.TheVariants.{Trim}
-use Rattle.bow_core.specs.Flat.{May, added, narrowed, put, Flat, after, opening}
-use Rattle.bow_core.specs.Flat.Event.{Writes, Fails, Reads}
+use Rattle.bow_flat.specs.Flat.{May, added, narrowed, put, Flat, after, opening}
+use Rattle.bow_flat.specs.Flat.Event.{Writes, Fails, Reads}
 use Rattle.bow_core.specs.Cuts.{AddsNoCut}
 use Rattle.bow_core.specs.Standing.{Stands, StandsFor, IsStanding}
 

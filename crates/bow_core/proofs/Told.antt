@@ -2,7 +2,7 @@
 use Rattle.std.proofs.Common.{◌≡◌, inl, inr, ⊎_elim, ℕ, zero, suc, List, Option, None, Some, refl, arith}
 use Rattle.bow_disk.specs.Disk.{Content, IsShaped, Goes}
 use Rattle.bow_units.specs.declared.requests.Phase.{Phase}
-use Rattle.bow_core.specs.Flat.{Flat}
+use Rattle.bow_flat.specs.Flat.{Flat}
 use Rattle.bow_core.specs.Standing.{IsStanding, StandsFor, Stands}
 use Rattle.bow_core.specs.Cuts.{CutsGo, Passes}
 use Rattle.bow_core.proofs.Events.{crash_stands}

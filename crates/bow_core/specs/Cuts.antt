@@ -14,6 +14,11 @@ abbrev pub MomentCounted : ℕ → Option Content → ℕ → ℕ → Type 0
 MomentCounted calls None before now = Unit {0}
 MomentCounted calls (Some c) before now = Counted calls before now
 
+-- one call at most was counted, of a disk that tells its content
+abbrev pub IsOneCall : Option Content → ℕ → ℕ → Type 0
+IsOneCall None before now = Unit {0}
+IsOneCall (Some c) before now = now ≤ before + 1
+
 -- how many calls on the disk a step makes
 abbrev pub calls_of : Step → ℕ
 calls_of (steps.Wrote t i) = 1

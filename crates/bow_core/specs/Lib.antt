@@ -1,4 +1,3 @@
-pub mod Flat
 pub mod Standing
 pub mod Cuts
 pub mod Requests

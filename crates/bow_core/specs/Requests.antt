@@ -8,8 +8,8 @@ use Rattle.bow_units.specs.declared.requests.Outcome.{Outcome}
 use Rattle.bow_units.specs.declared.requests.Outcome.TheVariants as outcomes
 use Rattle.bow_units.specs.Sizes.{IsInside}
 use Rattle.bow_units.specs.Magics.{HasMagic}
-use Rattle.bow_core.specs.Flat.{Event, block_at}
-use Rattle.bow_core.specs.Flat.Event.{Writes, Fails, Reads, Rests}
+use Rattle.bow_flat.specs.Flat.{Event, block_at}
+use Rattle.bow_flat.specs.Flat.Event.{Writes, Fails, Reads, Rests}
 
 -- a write of block 0 whose payload begins with a magic number
 abbrev pub IsReserved : Extent → List ℕ → Type 0

@@ -2,7 +2,7 @@
 use Rattle.std.specs.Prelude.{◌≡◌, ℕ, ◌<◌, List, [], slice_index_or, Option, None, Some, Contains}
 use Rattle.bow_units.specs.declared.requests.Phase.{Phase}
 use Rattle.bow_disk.specs.Disk.{Content}
-use Rattle.bow_core.specs.Flat.{Flat, May}
+use Rattle.bow_flat.specs.Flat.{Flat, May}
 
 -- a cut may leave this image of that state, of a device of n blocks, in Trim
 abbrev pub Stands : ℕ → Flat → List (List ℕ) → Type 0

@@ -13,8 +13,8 @@ use Rattle.bow_core.specs.declared.turns.Step.{Step}
 use Rattle.bow_core.specs.declared.turns.Step.TheVariants as steps
 use Rattle.bow_core.specs.declared.device.OpenFault.{OpenFault}
 use Rattle.bow_core.specs.declared.device.OpenFault.TheVariants as faults
-use Rattle.bow_core.specs.Flat.{Event}
-use Rattle.bow_core.specs.Flat.Event.{Rests}
+use Rattle.bow_flat.specs.Flat.{Event}
+use Rattle.bow_flat.specs.Flat.Event.{Rests}
 use Rattle.bow_core.specs.Requests.{Advances, Wrote, Got, Finished, wrote_event, got_event, outcome_event}
 
 -- a request that was taken in and is not answered, and how many of its blocks are done

@@ -3,7 +3,7 @@ ghost use Rattle.std.specs.Prelude.{◌≡◌, ◌+◌, ◌<◌, ◌≤◌, ◌^
 ghost use Rattle.bow_units.specs.Sizes.{IsValid};
 ghost use Rattle.bow_units.specs.Causes.{Rose};
 ghost use Rattle.bow_disk.specs.Disk.{Content, KeepsSizes};
-ghost use Rattle.bow_core.specs.Flat.{Flat, Allows, after, opening};
+ghost use Rattle.bow_flat.specs.Flat.{Flat, Allows, after, opening};
 ghost use Rattle.bow_core.specs.Standing.{Stands, StandsFor};
 ghost use Rattle.bow_core.specs.Requests.{IsAdmissible};
 
@@ -54,13 +54,14 @@ impl<D: Disk> Model for Core<D> {
 
 impl<D: Disk> Core<D> {
     ghost use Rattle.bow_core.specs.Views.{StepGives, step_event, IsReady, IsDiskFault, OpenCause};
-    ghost use Rattle.bow_core.specs.Cuts.{Counted, MomentCounted, CutsGo, AddsNoCut, calls_of};
+    ghost use Rattle.bow_core.specs.Cuts.{Counted, MomentCounted, CutsGo, AddsNoCut, IsOneCall, calls_of};
     ghost use Rattle.bow_core.specs.Clauses.{IfIdle, KeepsTelling, HoldsImage, spare_places};
     ghost use Rattle.bow_units.specs.declared.requests.Phase.TheVariants.{Trim};
 
     /// Opens a device on a disk: asks the sizes and flushes. The device is then in phase `Trim`, no request waits, and it
     /// stands for the opening state of the disk's image. The image is unchanged, and what a cut leaves meanwhile it might
-    /// have left before; on an error the disk is handed back so:
+    /// have left before; on an error the disk is handed back so,
+    /// after one call of it at most:
     /// `BadGeometry` comes exactly where the disk states sizes that are not valid, `DiskFault` only where its count of
     /// faults rose in this call, `NeedsRestore` never.
     pub fn open(mut disk: D) -> Result<Core<D>, (OpenFault, D)>
@@ -70,6 +71,7 @@ impl<D: Disk> Core<D> {
         ensures state { (c : Content) → D.content disk ≡ Some c → IfOk result (λ core. StandsFor core.phase core.geometry.blocks (D.content core.disk) (opening c.now)) }
         ensures moment { IfOk result (λ core. MomentCounted 1 (D.content core.disk) (D.moment disk) (D.moment core.disk)) }
         ensures cuts { MatchResult result (λ core. AddsNoCut (D.content disk) (D.moment disk) (D.left_since disk) (D.left_since core.disk)) (λ e. AddsNoCut (D.content disk) (D.moment disk) (D.left_since disk) (D.left_since e.1)) }
+        ensures few { IfErr result (λ e. IsOneCall (D.content e.1) (D.moment disk) (D.moment e.1)) }
         ensures unchanged { (c : Content) → D.content disk ≡ Some c → MatchResult result (λ core. HoldsImage c.now (D.content core.disk)) (λ e. HoldsImage c.now (D.content e.1)) }
         ensures cause { IfErr result (λ e. OpenCause (D.stated e.1) (D.faults disk) (D.faults e.1) e.0) }
         ensures kept { MatchResult result (λ core. KeepsSizes (D.stated disk) (D.stated core.disk)) (λ e. KeepsSizes (D.stated disk) (D.stated e.1)) }
@@ -95,10 +97,11 @@ impl<D: Disk> Core<D> {
         }
     }
 
-    /// The sizes with which the device was opened.
+    /// The sizes with which the device was opened. They are those that its disk states.
     pub fn geometry(&self) -> Geometry
         ensures is { result ≡ self.now.geometry }
         ensures valid { IsValid result }
+        ensures stated { D.stated self.now.disk ≡ Some result }
     {
         self.geometry
     }

@@ -4,7 +4,7 @@ ghost use Rattle.bow_disk.specs.Disk.{Goes, Same, Holds, WriteStep, TimeGoes, Ha
 ghost use Rattle.bow_units.specs.Sizes.{IsValid};
 ghost use Rattle.bow_units.specs.Causes.{HasCause, Rose};
 ghost use Rattle.bow_units.specs.declared.requests.Phase.{Phase};
-ghost use Rattle.bow_core.specs.Flat.{Flat, Allows, after};
+ghost use Rattle.bow_flat.specs.Flat.{Flat, Allows, after};
 ghost use Rattle.bow_core.specs.Standing.{Stands, StandsFor};
 ghost use Rattle.bow_core.specs.Cuts.{Counted, CutsGo, Passes};
 ghost use Rattle.bow_core.specs.Clauses.{KeepsTelling};

@@ -75,8 +75,8 @@ pub trait Disk {
     /// This moment is one of those since an earlier one.
     ghost counts_now: { (d : Self) (c : Content) → content d ≡ Some c → (t : ℕ) (image : List (List ℕ)) → t ≤ moment d → IsCrash c.candidates image → left_since d t image };
 
-    /// Since this moment there is no other.
-    ghost only_now: { (d : Self) (c : Content) → content d ≡ Some c → (image : List (List ℕ)) → left_since d (moment d) image → IsCrash c.candidates image };
+    /// From this moment on there is no other, whatever the clock says: it may stand at its last value.
+    ghost only_now: { (d : Self) (c : Content) → content d ≡ Some c → (t : ℕ) (image : List (List ℕ)) → moment d ≤ t → left_since d t image → IsCrash c.candidates image };
 }
 
 /// A law on disks: a cut of a disk that is settled on an image leaves that image, and no other.

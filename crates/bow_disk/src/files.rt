@@ -1,9 +1,9 @@
 // A disk over a file.
-ghost use Rattle.std.specs.Prelude.{◌≡◌, ◌<◌, ◌≤◌, ◌*◌, ◌^◌, ℕ, List, None, Some};
+ghost use Rattle.std.specs.Prelude.{◌≡◌, ◌<◌, ◌≤◌, ◌*◌, ◌^◌, ℕ, List, None, Some, IfOk};
 ghost use Rattle.std.specs.Option.{ForSome};
 ghost use Rattle.bow_units.specs.Causes.{HasCause};
-ghost use Rattle.bow_disk.specs.Disk.{HasBlock};
-ghost use Rattle.bow_disk.specs.Files.{HasPlaces};
+ghost use Rattle.bow_disk.specs.Disk.{HasBlock, KeepsSizes};
+ghost use Rattle.bow_disk.specs.Files.{HasPlaces, IsOfBlocks};
 
 use crate::Disk;
 use bow_units::{Failed, Geometry};
@@ -27,20 +27,20 @@ pub struct FileDisk<H: Files + Clone + Drop> {
 
 impl<H: Files + Clone + Drop> Model for FileDisk<H> {
     ghost use Rattle.std.specs.Option.{ForSome};
-    ghost use Rattle.bow_disk.specs.Files.{FileState, HasPlaces};
+    ghost use Rattle.bow_disk.specs.Files.{FileState, IsOfBlocks};
 
     ghost Value = { FileState };
 
-    ghost view = { λ d. record { sizes = d.sizes; faults = d.faults } };
+    ghost view = { λ d. record { block_size = d.block_size; sizes = d.sizes; faults = d.faults } };
 
-    ghost invariant = { λ d. ForSome d.sizes HasPlaces };
+    ghost invariant = { λ d. ForSome d.sizes (IsOfBlocks d.block_size) };
 }
 
 impl<H: Files + Clone + Drop> FileDisk<H> {
     /// A disk over the file at `path`, in blocks of `block_size` bytes. Nothing is opened yet: a file that is missing
     /// is a fault of the first call.
     pub fn new(rt: H, path: String, block_size: u32) -> FileDisk<H>
-        ensures { result ≡ record { sizes = None; faults = 0 } }
+        ensures { result ≡ record { block_size = block_size; sizes = None; faults = 0 } }
     {
         FileDisk {
             rt,
@@ -84,7 +84,7 @@ fn write_at<F: Write + Seek>(file: &mut F, offset: u64, from: &[u8]) -> io::Resu
 
 // As many blocks as stand whole in so many bytes.
 fn whole_blocks(block_size: u32, bytes: u64) -> Geometry
-    ensures { HasPlaces result }
+    ensures { IsOfBlocks block_size result }
 {
     Geometry {
         block_size,
@@ -128,7 +128,13 @@ impl<H: Files + Clone + Drop> Disk for FileDisk<H> {
 
     ghost faults = { λ d. d.faults };
 
-    fn sizes(&mut self) -> Result<Geometry, Failed> {
+    // The size of a block is the one that it was given.
+    fn sizes(&mut self) -> Result<Geometry, Failed>
+        ensures gives { IfOk result (λ g. self.new.sizes ≡ Some g) }
+        ensures always { KeepsSizes self.old.sizes self.new.sizes }
+        ensures cause { HasCause self.old.faults self.new.faults result }
+        ensures given { IfOk result (λ g. g.block_size ≡ self.old.block_size) }
+    {
         if let Some(sizes) = self.sizes {
             return Ok(sizes);
         }

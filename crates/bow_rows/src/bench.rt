@@ -23,6 +23,12 @@ pub(crate) const I16: Geometry = Geometry {
     blocks: 16,
 };
 
+/// Sizes that no device has.
+pub(crate) const SEVEN: Geometry = Geometry {
+    block_size: 512,
+    blocks: 7,
+};
+
 /// The sample image: block b holds the pattern of b with seed 0.
 pub(crate) fn sample_image(alloc: Global) -> Result<Vec<u8>, Fail>
     ensures { IfOk result (λ image. length image.items ≡ 8192) }
@@ -54,8 +60,13 @@ pub(crate) fn play_words(alloc: Global) -> Result<Vec<String>, Fail> {
     words(alloc, &["image", "attempts", "512", "play", "0"])
 }
 
+/// The words of `check` over 512-byte blocks.
+pub(crate) fn check_words(alloc: Global) -> Result<Vec<String>, Fail> {
+    words(alloc, &["image", "attempts", "512", "check"])
+}
+
 /// The program with these words over this disk and this source.
-pub(crate) fn play_over(
+pub(crate) fn run_over(
     alloc: Global,
     words: &[String],
     disk: MemDisk,
@@ -75,7 +86,21 @@ pub(crate) fn play_over(
 pub(crate) fn play(alloc: Global, words: &[String], script: &str) -> Result<Played, Fail> {
     let disk = MemDisk::new(alloc, I16, sample_image(alloc)?, 64)?;
     let mut source = MemSource::new(alloc, script.as_bytes().to_vec(alloc)?);
-    play_over(alloc, words, disk, &mut source)
+    run_over(alloc, words, disk, &mut source)
+}
+
+/// `check` over a disk of 512-byte blocks that holds this image and can take no write.
+pub(crate) fn check(alloc: Global, image: &[u8]) -> Result<Played, Fail> {
+    let geometry = Geometry {
+        block_size: 512,
+        blocks: (image.len() / 512) as u64,
+    };
+    if !geometry.valid() || image.len() as u64 != geometry.blocks * 512 {
+        return Err(Fail::from("no device"));
+    }
+    let disk = MemDisk::new(alloc, geometry, image.to_vec(alloc)?, 0)?;
+    let mut source = MemSource::new(alloc, Vec::new(alloc));
+    run_over(alloc, &check_words(alloc)?, disk, &mut source)
 }
 
 /// A disk that states sizes, fails at every other call, and tells no content.
@@ -133,5 +158,5 @@ impl Disk for Stated {
 
     ghost counts_now = { λ d c is t image le crash. absurd (nothing c is) };
 
-    ghost only_now = { λ d c is image left. absurd (nothing c is) };
+    ghost only_now = { λ d c is t image late left. absurd (nothing c is) };
 }

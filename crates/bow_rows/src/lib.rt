@@ -5,4 +5,8 @@
 #[cfg(test)]
 mod bench;
 #[cfg(test)]
+mod chains;
+#[cfg(test)]
+mod images;
+#[cfg(test)]
 mod plain;

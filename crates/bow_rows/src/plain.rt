@@ -1,8 +1,8 @@
 // Plays of writes and reads over the sample image.
-use crate::bench::{I16, Stated, play, play_over, play_words, sample_image, words};
+use crate::bench::{I16, SEVEN, Stated, play, play_words, run_over, sample_image, words};
 use bow_disk::{FailMode, MemDisk};
 use bow_tool::tool;
-use bow_units::{Geometry, MemSink, MemSource, fill_pattern};
+use bow_units::{MemSink, MemSource, fill_pattern};
 use std::test::Fail;
 
 #[test]
@@ -51,16 +51,12 @@ fn bad_words_make_no_call(rt: HostRuntime) -> Result<(), Fail> {
 #[test]
 fn seven_blocks_are_no_device(rt: HostRuntime) -> Result<(), Fail> {
     let alloc = rt.alloc();
-    let sizes = Geometry {
-        block_size: 512,
-        blocks: 7,
-    };
     let mut source = MemSource::new(alloc, Vec::new(alloc));
     let mut sink = MemSink::new(alloc, 64)?;
     let ended = tool(
         alloc,
         &play_words(alloc)?,
-        Stated::new(sizes),
+        Stated::new(SEVEN),
         &mut source,
         &mut sink,
     );
@@ -85,7 +81,7 @@ fn the_second_call_of_a_source_fails(rt: HostRuntime) -> Result<(), Fail> {
     let disk = MemDisk::new(alloc, I16, sample_image(alloc)?, 64)?;
     let mut source = MemSource::new(alloc, b"write 1 1 5\n".to_vec(alloc)?);
     source.fail_at(2)?;
-    let ran = play_over(alloc, &play_words(alloc)?, disk, &mut source)?;
+    let ran = run_over(alloc, &play_words(alloc)?, disk, &mut source)?;
     assert_eq!(rt; ran.status, 4);
     assert_eq!(rt; ran.text.as_slice(), b"source fault\n".as_slice());
     assert_eq!(rt; ran.calls, 0);
@@ -98,7 +94,7 @@ fn the_first_call_of_a_disk_or_a_sink_fails(rt: HostRuntime) -> Result<(), Fail>
     let mut disk = MemDisk::new(alloc, I16, sample_image(alloc)?, 64)?;
     disk.fail_at(1, FailMode::Lost)?;
     let mut source = MemSource::new(alloc, b"write 1 1 5\n".to_vec(alloc)?);
-    let ran = play_over(alloc, &play_words(alloc)?, disk, &mut source)?;
+    let ran = run_over(alloc, &play_words(alloc)?, disk, &mut source)?;
     assert_eq!(rt; ran.status, 6);
     assert_eq!(rt; ran.text.as_slice(), b"disk fault\n".as_slice());
     assert_eq!(rt; ran.image, sample_image(alloc)?);
@@ -120,7 +116,7 @@ fn a_failing_write_is_a_line_and_reads_tell_what_it_left(rt: HostRuntime) -> Res
     // Call 1 is the flush at opening, calls 2 and 3 are the writes of blocks 1 and 2.
     disk.fail_at(3, FailMode::Kept)?;
     let mut source = MemSource::new(alloc, b"write 1 2 5\nread 1 2\n".to_vec(alloc)?);
-    let ran = play_over(alloc, &play_words(alloc)?, disk, &mut source)?;
+    let ran = run_over(alloc, &play_words(alloc)?, disk, &mut source)?;
     assert_eq!(rt; ran.status, 0);
     let told =
         b"0.0 wrote 1\n0.0 disk fault after 1\n0.1 got 1 pattern 1 5\n0.1 got 2 pattern 2 5\n0.1 data\n";

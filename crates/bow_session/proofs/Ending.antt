@@ -10,8 +10,8 @@ use Rattle.bow_units.specs.declared.requests.Op.{Op}
 use Rattle.bow_units.specs.declared.requests.Op.TheVariants as ops
 use Rattle.bow_units.specs.declared.requests.Phase.{Phase}
 use Rattle.bow_disk.specs.Disk.{Content}
-use Rattle.bow_core.specs.Flat.{Flat}
-use Rattle.bow_core.specs.Standing.{StandsFor}
+use Rattle.bow_flat.specs.Flat.{Flat}
+use Rattle.bow_core.specs.Standing.{Stands, StandsFor}
 use Rattle.bow_core.specs.Views.{Waiting}
 use Rattle.bow_core.specs.Requests.{bytes_of}
 use Rattle.bow_script.specs.declared.scripts.Line.{Line}
@@ -24,6 +24,7 @@ use Rattle.bow_session.specs.Lanes.{lane_lines, section_lines, request_at, reque
 use Rattle.bow_session.specs.Moments.{AreMoments}
 use Rattle.bow_session.specs.Requests.{bare, IsFor, AreFor}
 use Rattle.bow_session.specs.Fits.{IsFit, HasRoom}
+use Rattle.bow_session.specs.Cuts.{Cuts}
 use Rattle.bow_session.specs.Sessions.{Played, asked_of, buffer_of, count_of, IsRead}
 use Rattle.bow_session.proofs.Going.{played_none}
 
@@ -97,8 +98,9 @@ first_fit g lines answered pending waiting admitted valid few nothing none are t
 pub first_room : (lines : List Line) (answered : List Op) (waiting : Option Waiting) (answers items moments : ℕ) → answered ≡ [] → waiting ≡ None → answers ≡ length lines → items ≡ sum_by (λ (line : Line). blocks_of line + 1) lines → moments ≡ sum_by (λ (line : Line). blocks_of line + 1) lines → HasRoom lines (length answered) waiting answers items moments
 first_room lines answered waiting answers items moments nothing none is_answers is_items is_moments = rw (nothing, none) (record { for_answers = omega (arith, is_answers); for_items = omega (arith, is_items); for_moments = omega (arith, is_moments) })
 
-pub first_played : (g : Geometry) (phase : Phase) (content : Option Content) (script : List (List (List Line))) (answered : List Op) (waiting : Option Waiting) (journal : List Item) (start : Flat) → answered ≡ [] → journal ≡ [] → waiting ≡ None → StandsFor phase g.blocks content start → Played g phase content script (answered ∷ []) waiting journal start
-first_played g phase content script answered waiting journal start no_answers no_items none stands = rw (no_answers, no_items) (played_none g phase content script waiting start none stands)
+pub first_played : (g : Geometry) (phase : Phase) (content : Option Content) (script : List (List (List Line))) (answered : List Op) (waiting : Option Waiting) (journal : List Item) (moments : List ℕ) (start : Flat) (cuts : Cuts) → answered ≡ [] → journal ≡ [] → moments ≡ [] → waiting ≡ None → StandsFor phase g.blocks content start
+    → ((image : List (List ℕ)) → cuts.since cuts.start image → cuts.early image) → ((image : List (List ℕ)) → cuts.now image → Stands g.blocks start image) → Played g phase content script (answered ∷ []) waiting journal moments start cuts
+first_played g phase content script answered waiting journal moments start cuts no_answers no_items no_moments none stands early now = rw (no_answers, no_items, no_moments) (played_none g phase content script waiting start cuts none stands early now)
 
 -- the bytes of an answered request
 pub answered_buffer : (answers : List Op) (waiting : Option Waiting) (lane n : ℕ) → lane ≡ 0 → n < length answers → buffer_of (answers ∷ []) waiting lane n ≡ bytes_of (slice_index_or answers n ops.Flush)

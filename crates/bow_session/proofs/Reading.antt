@@ -12,7 +12,7 @@ use Rattle.bow_core.specs.declared.turns.Turn.{Turn}
 use Rattle.bow_core.specs.declared.turns.Step.TheVariants as steps
 use Rattle.bow_core.specs.Requests.{Advances, Got, IsAdmissible, bytes_of}
 use Rattle.bow_core.specs.Views.{Waiting, StepGives}
-use Rattle.bow_core.specs.Flat.{block_at}
+use Rattle.bow_flat.specs.Flat.{block_at}
 use Rattle.bow_script.specs.declared.scripts.Line.{Line}
 use Rattle.bow_session.specs.declared.desks.Hand.{Hand}
 use Rattle.bow_session.specs.declared.journals.Item.{Item}

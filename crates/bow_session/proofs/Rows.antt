@@ -9,8 +9,8 @@ use Rattle.bow_units.specs.declared.requests.Phase.TheVariants.{Trim}
 use Rattle.bow_units.specs.declared.requests.Outcome.{Outcome}
 use Rattle.bow_units.specs.declared.requests.Outcome.TheVariants as outcomes
 use Rattle.bow_disk.specs.Disk.{Content}
-use Rattle.bow_core.specs.Flat.{Flat, Event, after, Allows, block_at}
-use Rattle.bow_core.specs.Flat.Event.{Writes, Fails, Reads}
+use Rattle.bow_flat.specs.Flat.{Flat, Event, after, Allows, block_at}
+use Rattle.bow_flat.specs.Flat.Event.{Writes, Fails, Reads}
 use Rattle.bow_core.specs.Standing.{StandsFor}
 use Rattle.bow_core.specs.Requests.{Advances, Wrote, Got, Finished, wrote_event, got_event, outcome_event, bytes_of, IsAdmissible, IsTransfer}
 use Rattle.bow_session.specs.declared.journals.Item.{Item}

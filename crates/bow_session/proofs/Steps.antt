@@ -1,5 +1,5 @@
 -- What a step of the device does to a session.
-use Rattle.std.proofs.Common.{◌≡◌, ℕ, zero, suc, ◌+◌, ◌<◌, ◌≤◌, List, [], ◌∷◌, ◌++◌, length, Option, None, Some, sym, ap, ◌∙◌, subst, arith, length-append}
+use Rattle.std.proofs.Common.{◌≡◌, ℕ, zero, suc, ◌+◌, ◌<◌, ◌≤◌, List, [], ◌∷◌, ◌++◌, length, Option, None, Some, refl, sym, ap, ◌∙◌, subst, arith, length-append}
 use Rattle.std.specs.Prelude.{slice_index_or}
 use Rattle.bow_units.specs.declared.sizes.Geometry.{Geometry}
 use Rattle.bow_units.specs.declared.requests.Op.{Op}
@@ -10,9 +10,9 @@ use Rattle.bow_disk.specs.Disk.{Content}
 use Rattle.bow_core.specs.declared.turns.Ticket.{Ticket}
 use Rattle.bow_core.specs.declared.turns.Turn.{Turn}
 use Rattle.bow_core.specs.declared.turns.Step.TheVariants as steps
-use Rattle.bow_core.specs.Flat.{Flat, after, Allows}
+use Rattle.bow_flat.specs.Flat.{Flat, after, Allows}
 use Rattle.bow_core.specs.Standing.{StandsFor}
-use Rattle.bow_core.specs.Views.{Waiting, StepGives, step_event}
+use Rattle.bow_core.specs.Views.{Waiting, View, StepGives, step_event}
 use Rattle.bow_script.specs.declared.scripts.Line.{Line}
 use Rattle.bow_session.specs.declared.desks.Hand.{Hand}
 use Rattle.bow_session.specs.declared.journals.Item.{Item}
@@ -20,9 +20,11 @@ use Rattle.bow_session.specs.declared.journals.Item.TheVariants as items
 use Rattle.bow_session.specs.Lanes.{lane_lines}
 use Rattle.bow_session.specs.Moments.{RisesTo, AreMoments}
 use Rattle.bow_session.specs.Fits.{IsFit, HasRoom, items_left}
-use Rattle.bow_session.specs.Sessions.{Played, steps_left}
+use Rattle.bow_session.specs.Cuts.{Cuts}
+use Rattle.bow_session.specs.Sessions.{Run, Played, steps_left}
 use Rattle.bow_session.proofs.Rows.{wrote_on, got_on, answer_on}
 use Rattle.bow_session.proofs.Fitting.{waits, on_fit, on_left, on_fewer, off_fit, off_left, off_fewer}
+use Rattle.bow_session.proofs.Cutting.{StepCuts, cuts_then}
 use Rattle.bow_session.proofs.Going.{played_wrote, played_got, played_answered}
 
 -- a block more is done
@@ -69,36 +71,43 @@ off_answered g script answered pending (Some h) (Some w) None admitted turn t op
     }
 
 -- the journal after a step
-pub step_wrote : (g : Geometry) (phase phase' : Phase) (content content' : Option Content) (script : List (List (List Line))) (answered pending : List Op) (h : Hand) (waiting new : Option Waiting) (admitted : ℕ) (journal : List Item) (start : Flat) (turn : Turn) (t : Ticket) (i : ℕ) → phase ≡ Trim → phase' ≡ phase → IsFit g (lane_lines script 0) answered pending (Some h) waiting admitted → StepGives g waiting turn (steps.Wrote t i) new
-    → ((f : Flat) → StandsFor phase g.blocks content f → Allows g.blocks (step_event g.block_size waiting (steps.Wrote t i) new) f × StandsFor phase' g.blocks content' (after g.blocks (step_event g.block_size waiting (steps.Wrote t i) new) f))
-    → Played g phase content script (answered ∷ []) waiting journal start → Played g phase content' script (answered ∷ []) new (journal ++ items.Wrote 0 (length answered) (h.first + i) ∷ []) start
-step_wrote g phase phase' content content' script answered pending h None new admitted journal start turn t i trim kept fit gives event p = absurd gives
-step_wrote g phase phase' content content' script answered pending h (Some w) None admitted journal start turn t i trim kept fit gives event p = absurd gives
-step_wrote g phase phase' content content' script answered pending h (Some w) (Some v) admitted journal start turn t i trim kept fit gives event p =
-    let now = waits g (lane_lines script 0) answered pending h w admitted fit in
-    played_wrote g phase content content' script answered w journal start p now.line now.here now.is trim v i h.first gives.3 fit.in_hand.1 (λ f stands. ((event f stands).0, subst (λ (x : Phase). StandsFor x g.blocks content' (after g.blocks (step_event g.block_size (Some w) (steps.Wrote t i) (Some v)) f)) kept (event f stands).1))
+pub step_wrote : (g : Geometry) (phase phase' : Phase) (content content' : Option Content) (script : List (List (List Line))) (answered pending : List Op) (h : Hand) (waiting new : Option Waiting) (admitted : ℕ) (journal : List Item) (moments : List ℕ) (start : Flat) (cuts : Cuts) (since : ℕ → List (List ℕ) → Type 0) (leaves : List (List ℕ) → Type 0) (before now calls : ℕ) (turn : Turn) (t : Ticket) (i : ℕ) → phase ≡ Trim → phase' ≡ phase → IsFit g (lane_lines script 0) answered pending (Some h) waiting admitted → StepGives g waiting turn (steps.Wrote t i) new
+    → ((f : Flat) → StandsFor phase g.blocks content f → Allows g.blocks (step_event g.block_size waiting (steps.Wrote t i) new) f × StandsFor phase' g.blocks content' (after g.blocks (step_event g.block_size waiting (steps.Wrote t i) new) f) × StepCuts g.blocks cuts since leaves before now calls (after g.blocks (step_event g.block_size waiting (steps.Wrote t i) new) f))
+    → length moments ≡ length journal
+    → Played g phase content script (answered ∷ []) waiting journal moments start cuts → Played g phase content' script (answered ∷ []) new (journal ++ items.Wrote 0 (length answered) (h.first + i) ∷ []) (moments ++ calls ∷ []) start (cuts_then cuts since leaves)
+step_wrote g phase phase' content content' script answered pending h None new admitted journal moments start cuts since leaves before now calls turn t i trim kept fit gives event long p = absurd gives
+step_wrote g phase phase' content content' script answered pending h (Some w) None admitted journal moments start cuts since leaves before now calls turn t i trim kept fit gives event long p = absurd gives
+step_wrote g phase phase' content content' script answered pending h (Some w) (Some v) admitted journal moments start cuts since leaves before now calls turn t i trim kept fit gives event long p =
+    let here = waits g (lane_lines script 0) answered pending h w admitted fit in
+    played_wrote g phase content content' script answered w journal moments start cuts p long since leaves before now calls here.line here.here here.is trim v i h.first gives.3 fit.in_hand.1 (λ f stands. ((event f stands).0, subst (λ (x : Phase). StandsFor x g.blocks content' (after g.blocks (step_event g.block_size (Some w) (steps.Wrote t i) (Some v)) f)) kept (event f stands).1, (event f stands).2))
 
-pub step_got : (g : Geometry) (phase phase' : Phase) (content content' : Option Content) (script : List (List (List Line))) (answered pending : List Op) (h : Hand) (waiting new : Option Waiting) (admitted : ℕ) (journal : List Item) (start : Flat) (turn : Turn) (t : Ticket) (i : ℕ) → phase ≡ Trim → phase' ≡ phase → IsFit g (lane_lines script 0) answered pending (Some h) waiting admitted → StepGives g waiting turn (steps.Got t i) new
-    → ((f : Flat) → StandsFor phase g.blocks content f → Allows g.blocks (step_event g.block_size waiting (steps.Got t i) new) f × StandsFor phase' g.blocks content' (after g.blocks (step_event g.block_size waiting (steps.Got t i) new) f))
-    → Played g phase content script (answered ∷ []) waiting journal start → Played g phase content' script (answered ∷ []) new (journal ++ items.Got 0 (length answered) (h.first + i) ∷ []) start
-step_got g phase phase' content content' script answered pending h None new admitted journal start turn t i trim kept fit gives event p = absurd gives
-step_got g phase phase' content content' script answered pending h (Some w) None admitted journal start turn t i trim kept fit gives event p = absurd gives
-step_got g phase phase' content content' script answered pending h (Some w) (Some v) admitted journal start turn t i trim kept fit gives event p =
-    let now = waits g (lane_lines script 0) answered pending h w admitted fit in
-    played_got g phase content content' script answered w journal start p now.line now.here now.is trim v i h.first gives.3 fit.in_hand.1 (λ f stands. ((event f stands).0, subst (λ (x : Phase). StandsFor x g.blocks content' (after g.blocks (step_event g.block_size (Some w) (steps.Got t i) (Some v)) f)) kept (event f stands).1))
+pub step_got : (g : Geometry) (phase phase' : Phase) (content content' : Option Content) (script : List (List (List Line))) (answered pending : List Op) (h : Hand) (waiting new : Option Waiting) (admitted : ℕ) (journal : List Item) (moments : List ℕ) (start : Flat) (cuts : Cuts) (since : ℕ → List (List ℕ) → Type 0) (leaves : List (List ℕ) → Type 0) (before now calls : ℕ) (turn : Turn) (t : Ticket) (i : ℕ) → phase ≡ Trim → phase' ≡ phase → IsFit g (lane_lines script 0) answered pending (Some h) waiting admitted → StepGives g waiting turn (steps.Got t i) new
+    → ((f : Flat) → StandsFor phase g.blocks content f → Allows g.blocks (step_event g.block_size waiting (steps.Got t i) new) f × StandsFor phase' g.blocks content' (after g.blocks (step_event g.block_size waiting (steps.Got t i) new) f) × StepCuts g.blocks cuts since leaves before now calls (after g.blocks (step_event g.block_size waiting (steps.Got t i) new) f))
+    → length moments ≡ length journal
+    → Played g phase content script (answered ∷ []) waiting journal moments start cuts → Played g phase content' script (answered ∷ []) new (journal ++ items.Got 0 (length answered) (h.first + i) ∷ []) (moments ++ calls ∷ []) start (cuts_then cuts since leaves)
+step_got g phase phase' content content' script answered pending h None new admitted journal moments start cuts since leaves before now calls turn t i trim kept fit gives event long p = absurd gives
+step_got g phase phase' content content' script answered pending h (Some w) None admitted journal moments start cuts since leaves before now calls turn t i trim kept fit gives event long p = absurd gives
+step_got g phase phase' content content' script answered pending h (Some w) (Some v) admitted journal moments start cuts since leaves before now calls turn t i trim kept fit gives event long p =
+    let here = waits g (lane_lines script 0) answered pending h w admitted fit in
+    played_got g phase content content' script answered w journal moments start cuts p long since leaves before now calls here.line here.here here.is trim v i h.first gives.3 fit.in_hand.1 (λ f stands. ((event f stands).0, subst (λ (x : Phase). StandsFor x g.blocks content' (after g.blocks (step_event g.block_size (Some w) (steps.Got t i) (Some v)) f)) kept (event f stands).1, (event f stands).2))
 
-pub step_answered : (g : Geometry) (phase phase' : Phase) (content content' : Option Content) (script : List (List (List Line))) (answered pending : List Op) (h : Hand) (waiting new : Option Waiting) (admitted : ℕ) (journal : List Item) (start : Flat) (turn : Turn) (t : Ticket) (op : Op) (outcome : Outcome) → phase ≡ Trim → phase' ≡ phase → IsFit g (lane_lines script 0) answered pending (Some h) waiting admitted → StepGives g waiting turn (steps.Answered t op outcome) new
-    → ((f : Flat) → StandsFor phase g.blocks content f → Allows g.blocks (step_event g.block_size waiting (steps.Answered t op outcome) new) f × StandsFor phase' g.blocks content' (after g.blocks (step_event g.block_size waiting (steps.Answered t op outcome) new) f))
-    → Played g phase content script (answered ∷ []) waiting journal start → Played g phase content' script ((answered ++ op ∷ []) ∷ []) new (journal ++ items.Answered 0 (length answered) outcome ∷ []) start
-step_answered g phase phase' content content' script answered pending h None new admitted journal start turn t op outcome trim kept fit gives event p = absurd gives
-step_answered g phase phase' content content' script answered pending h (Some w) (Some v) admitted journal start turn t op outcome trim kept fit gives event p = absurd gives
-step_answered g phase phase' content content' script answered pending h (Some w) None admitted journal start turn t op outcome trim kept fit gives event p =
-    let now = waits g (lane_lines script 0) answered pending h w admitted fit in
-    played_answered g phase content content' script answered w journal start p now.line now.here now.is trim op outcome w.done gives.2 (λ f stands. ((event f stands).0, subst (λ (x : Phase). StandsFor x g.blocks content' (after g.blocks (step_event g.block_size (Some w) (steps.Answered t op outcome) None) f)) kept (event f stands).1))
+pub step_answered : (g : Geometry) (phase phase' : Phase) (content content' : Option Content) (script : List (List (List Line))) (answered pending : List Op) (h : Hand) (waiting new : Option Waiting) (admitted : ℕ) (journal : List Item) (moments : List ℕ) (start : Flat) (cuts : Cuts) (since : ℕ → List (List ℕ) → Type 0) (leaves : List (List ℕ) → Type 0) (before now calls : ℕ) (turn : Turn) (t : Ticket) (op : Op) (outcome : Outcome) → phase ≡ Trim → phase' ≡ phase → IsFit g (lane_lines script 0) answered pending (Some h) waiting admitted → StepGives g waiting turn (steps.Answered t op outcome) new
+    → ((f : Flat) → StandsFor phase g.blocks content f → Allows g.blocks (step_event g.block_size waiting (steps.Answered t op outcome) new) f × StandsFor phase' g.blocks content' (after g.blocks (step_event g.block_size waiting (steps.Answered t op outcome) new) f) × StepCuts g.blocks cuts since leaves before now calls (after g.blocks (step_event g.block_size waiting (steps.Answered t op outcome) new) f))
+    → length moments ≡ length journal
+    → Played g phase content script (answered ∷ []) waiting journal moments start cuts → Played g phase content' script ((answered ++ op ∷ []) ∷ []) new (journal ++ items.Answered 0 (length answered) outcome ∷ []) (moments ++ calls ∷ []) start (cuts_then cuts since leaves)
+step_answered g phase phase' content content' script answered pending h None new admitted journal moments start cuts since leaves before now calls turn t op outcome trim kept fit gives event long p = absurd gives
+step_answered g phase phase' content content' script answered pending h (Some w) (Some v) admitted journal moments start cuts since leaves before now calls turn t op outcome trim kept fit gives event long p = absurd gives
+step_answered g phase phase' content content' script answered pending h (Some w) None admitted journal moments start cuts since leaves before now calls turn t op outcome trim kept fit gives event long p =
+    let here = waits g (lane_lines script 0) answered pending h w admitted fit in
+    played_answered g phase content content' script answered w journal moments start cuts p long since leaves before now calls here.line here.here here.is trim op outcome w.done gives.2 (λ f stands. ((event f stands).0, subst (λ (x : Phase). StandsFor x g.blocks content' (after g.blocks (step_event g.block_size (Some w) (steps.Answered t op outcome) None) f)) kept (event f stands).1, (event f stands).2))
 
-pub played_like : (g g' : Geometry) (phase phase' : Phase) (content content' : Option Content) (script script' : List (List (List Line))) (answered answered' : List Op) (waiting waiting' : Option Waiting) (journal journal' : List Item) (start : Flat)
-    → g' ≡ g → phase' ≡ phase → content' ≡ content → script' ≡ script → answered' ≡ answered → waiting' ≡ waiting → journal' ≡ journal → Played g phase content script (answered ∷ []) waiting journal start → Played g' phase' content' script' (answered' ∷ []) waiting' journal' start
-played_like g g' phase phase' content content' script script' answered answered' waiting waiting' journal journal' start is_g is_phase is_content is_script is_answered is_waiting is_journal p = rw (is_g, is_phase, is_content, is_script, is_answered, is_waiting, is_journal) p
+-- a session, of its parts
+abbrev pub run : {D : Type 0} → View D → List (List (List Line)) → List (List Op) → List Item → List ℕ → Run D
+run core script answered journal moments = record { core = core; script = script; answered = answered; journal = journal; moments = moments }
+
+pub same_run : {D : Type 0} (core core' : View D) (script script' : List (List (List Line))) (answered answered' : List (List Op)) (journal journal' : List Item) (moments moments' : List ℕ)
+    → core' ≡ core → script' ≡ script → answered' ≡ answered → journal' ≡ journal → moments' ≡ moments → run core script answered journal moments ≡ run core' script' answered' journal' moments'
+same_run core core' script script' answered answered' journal journal' moments moments' is_core is_script is_answered is_journal is_moments = rw (is_core, is_script, is_answered, is_journal, is_moments) refl
 
 -- one more moment
 rises_later : (low : ℕ) (ms : List ℕ) (high later : ℕ) → high ≤ later → RisesTo low ms high → RisesTo low (ms ++ later ∷ []) later

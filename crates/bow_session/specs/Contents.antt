@@ -2,10 +2,10 @@
 use Rattle.std.specs.Prelude.{ℕ, ◌+◌, ◌-◌, ◌<◌, ◌≤◌, List, [], Option, None, Some, All}
 use Rattle.bow_units.specs.declared.requests.Op.{Op}
 use Rattle.bow_units.specs.declared.requests.Op.TheVariants as ops
-use Rattle.bow_core.specs.Flat.{block_at}
+use Rattle.bow_flat.specs.Flat.{block_at}
 use Rattle.bow_script.specs.declared.scripts.Line.{Line}
 use Rattle.bow_session.specs.declared.journals.Item.{Item}
-use Rattle.bow_session.specs.declared.journals.Item.TheVariants.{Wrote, Got, Answered}
+use Rattle.bow_session.specs.declared.journals.Item.TheVariants.{Got}
 use Rattle.bow_session.specs.Journal.{Asked}
 use Rattle.bow_session.specs.Lanes.{requests}
 use Rattle.bow_session.specs.Requests.{first_of}

@@ -8,8 +8,8 @@ use Rattle.bow_units.specs.declared.requests.Phase.TheVariants.{Trim, Arming, Ch
 use Rattle.bow_units.specs.declared.requests.Outcome.{Outcome}
 use Rattle.bow_units.specs.declared.requests.Outcome.TheVariants as outcomes
 use Rattle.bow_units.specs.Sizes.{IsInside}
-use Rattle.bow_core.specs.Flat.{Flat, Event, after, Allows, put, block_at}
-use Rattle.bow_core.specs.Flat.Event.{Writes, Fails, Reads, Discards, Flushes, Arms, Prepares, Decides, Commits}
+use Rattle.bow_flat.specs.Flat.{Flat, Event, after, Allows, put, block_at}
+use Rattle.bow_flat.specs.Flat.Event.{Writes, Fails, Reads, Discards, Flushes, Arms, Prepares, Decides, Commits}
 use Rattle.bow_core.specs.Requests.{IsReserved, IsProper}
 use Rattle.bow_session.specs.declared.journals.Item.{Item}
 use Rattle.bow_session.specs.declared.journals.Item.TheVariants.{Wrote, Got, Answered}

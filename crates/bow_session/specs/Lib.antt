@@ -3,6 +3,8 @@ pub mod Lanes
 pub mod Requests
 pub mod Sessions
 pub mod Moments
+pub mod Cuts
+pub mod Served
 pub mod Contents
 pub mod Reserved
 pub mod Fits

@@ -7,9 +7,10 @@ use Rattle.bow_units.specs.declared.requests.Op.TheVariants as ops
 use Rattle.bow_units.specs.declared.requests.Phase.{Phase}
 use Rattle.bow_units.specs.Causes.{Rose}
 use Rattle.bow_disk.specs.Disk.{Content}
-use Rattle.bow_core.specs.Flat.{Flat}
+use Rattle.bow_flat.specs.Flat.{Flat}
 use Rattle.bow_core.specs.Standing.{StandsFor}
 use Rattle.bow_core.specs.Requests.{bytes_of}
+use Rattle.bow_core.specs.Cuts.{Counted}
 use Rattle.bow_core.specs.Views.{View, Waiting}
 use Rattle.bow_script.specs.declared.scripts.Line.{Line}
 use Rattle.bow_script.specs.Grammar.{blocks_of}
@@ -18,7 +19,8 @@ use Rattle.bow_session.specs.declared.journals.Actor.{Actor}
 use Rattle.bow_session.specs.declared.journals.Actor.TheVariants.{Lane, Worker, Command}
 use Rattle.bow_session.specs.Journal.{Asked, Place, beginning, Legal}
 use Rattle.bow_session.specs.Lanes.{lane_lines, requests, IsComplete}
-use Rattle.bow_session.specs.Moments.{faults_in}
+use Rattle.bow_session.specs.Cuts.{CutsStand, Cuts, cuts_of}
+use Rattle.bow_session.specs.Moments.{faults_in, calls_after, moments_from}
 
 -- A session.
 pub record Run (D : Type 0) : Type 0 where
@@ -76,27 +78,32 @@ pub record Agrees (size : ℕ) (buffer : ℕ → ℕ → List ℕ) (answered : L
 abbrev pub asked_of : Geometry → List (List (List Line)) → (ℕ → ℕ → List ℕ) → Asked
 asked_of g script buffer = record { sizes = g; lanes = lanes_of script; request = requests g.block_size script; buffer = buffer }
 
--- The journal is legal from this state on, and the device stands for the state to which it leads.
-pub record Played (g : Geometry) (phase : Phase) (content : Option Content) (script : List (List (List Line))) (answered : List (List Op)) (waiting : Option Waiting) (journal : List Item) (start : Flat) : Type 0 where
+-- The journal is legal from this state on, the device stands for the state to which it leads, and cuts leave states on
+-- its way.
+pub record Played (g : Geometry) (phase : Phase) (content : Option Content) (script : List (List (List Line))) (answered : List (List Op)) (waiting : Option Waiting) (journal : List Item) (moments : List ℕ) (start : Flat) (cuts : Cuts) : Type 0 where
   pub place : Place
   pub legal : Legal (asked_of g script (buffer_of answered waiting)) journal (beginning start) place
   -- whatever stands in the buffers behind what was read
   pub unread : (buffer : ℕ → ℕ → List ℕ) → Agrees g.block_size buffer answered waiting → Legal (asked_of g script buffer) journal (beginning start) place
+  pub left : (buffer : ℕ → ℕ → List ℕ) → Agrees g.block_size buffer answered waiting → CutsStand (asked_of g script buffer) journal moments (beginning start) place cuts
   pub stands : StandsFor phase g.blocks content place.flat
   pub number : (lane : ℕ) → place.number lane ≡ count_of answered lane
   pub done : place.done 0 ≡ waiting_done waiting
   pub alone : (lane : ℕ) → 0 < lane → place.done lane ≡ 0
 
--- the session was played from this state on
-abbrev pub HasPlayed : {D : Type 0} → (D → Option Content) → Run D → Flat → Type 0
-HasPlayed content s start = Played s.core.geometry s.core.phase (content s.core.disk) s.script s.answered s.core.waiting s.journal start
+-- the session was played from this state on, over a device that was opened on that first disk
+pub record HasPlayed {D : Type 0} (content : D → Option Content) (moment : D → ℕ) (left_since : D → ℕ → List (List ℕ) → Type 0) (s : Run D) (start : Flat) (first : D) : Type 0 where
+  pub played : Played s.core.geometry s.core.phase (content s.core.disk) s.script s.answered s.core.waiting s.journal s.moments start (cuts_of content moment left_since first s.core.disk)
+  pub counted : Counted s.core.calls (moment first) (moment s.core.disk)
 
--- The journal of all requests is legal from this state on, and the device stands for the state to which it leads.
-pub record IsWhole {D : Type 0} (content : D → Option Content) (s : Run D) (start : Flat) : Type 0 where
+-- The journal of all requests is legal from this state on, the device stands for the state to which it leads, and cuts
+-- since its opening on that first disk leave states on its way.
+pub record IsWhole {D : Type 0} (content : D → Option Content) (moment : D → ℕ) (left_since : D → ℕ → List (List ℕ) → Type 0) (s : Run D) (start : Flat) (first : D) : Type 0 where
   pub place : Place
   pub legal : Legal (asked_of s.core.geometry s.script (buffer_of s.answered s.core.waiting)) s.journal (beginning start) place
   pub stands : StandsFor s.core.phase s.core.geometry.blocks (content s.core.disk) place.flat
   pub complete : IsComplete s.script s.journal place
+  pub cuts : CutsStand (asked_of s.core.geometry s.script (buffer_of s.answered s.core.waiting)) s.journal s.moments (beginning start) place (cuts_of content moment left_since first s.core.disk)
 
 -- the lane has an unanswered request
 abbrev pub HasMore : {D : Type 0} → Run D → ℕ → Type 0
@@ -117,6 +124,11 @@ abbrev pub Records : {D : Type 0} → (D → ℕ) → Run D → Run D → Type 0
 Records faults old new = ((new.journal ≡ old.journal) × (new.moments ≡ old.moments))
     ⊎ ((item : Item) × (new.journal ≡ old.journal ++ item ∷ []) × (new.moments ≡ old.moments ++ new.core.calls ∷ [])
     × (0 < faults_in item → Rose (faults old.core.disk) (faults new.core.disk)))
+
+-- the device had made so many calls before, and counts those that the journal tells of
+pub record HasCounted {D : Type 0} (s : Run D) (before : ℕ) : Type 0 where
+  pub calls : s.core.calls ≡ calls_after before s.journal
+  pub moments : s.moments ≡ moments_from before s.journal
 
 -- the device has taken in so many requests, and those of the session
 abbrev pub HasAdmitted : {D : Type 0} → Run D → ℕ → Type 0

@@ -1,9 +1,9 @@
 // The parts of a session at work: the device, the requests to come, and what was done.
 ghost use Rattle.std.specs.Prelude.{◌≡◌, ◌⊎◌, ◌+◌, ◌<◌, ◌≤◌, ◌++◌, ◌∷◌, [], ℕ, length, Some, None, List};
-ghost use Rattle.bow_core.specs.Flat.{Flat};
+ghost use Rattle.bow_flat.specs.Flat.{Flat};
 ghost use Rattle.bow_session.specs.Lanes.{lane_lines};
 ghost use Rattle.bow_session.specs.Requests.{first_of};
-ghost use Rattle.bow_session.specs.Sessions.{HasPlayed, HasAdmitted, Records, turns_left};
+ghost use Rattle.bow_session.specs.Sessions.{HasPlayed, HasCounted, HasAdmitted, Records, turns_left};
 
 use crate::journals::Item;
 use crate::reserved::Reserved;
@@ -40,7 +40,8 @@ impl<D: Disk> Desk<D> {
         requires more { length self.old.answered.items < length (lane_lines self.old.script 0) }
         ensures fits { Fits self.new }
         ensures same { (self.new.script ≡ self.old.script) × (self.new.core.geometry ≡ self.old.core.geometry) × (self.new.core.phase ≡ self.old.core.phase) }
-        ensures played { (start : Flat) → HasPlayed D.content (run_of self.old) start → HasPlayed D.content (run_of self.new) start }
+        ensures played { (start : Flat) (first : D) → HasPlayed D.content D.moment D.left_since (run_of self.old) start first → HasPlayed D.content D.moment D.left_since (run_of self.new) start first }
+        ensures counted { (before : ℕ) → HasCounted (run_of self.old) before → HasCounted (run_of self.new) before }
         ensures records { Records D.faults (run_of self.old) (run_of self.new) }
         ensures faults { D.faults self.old.core.disk ≤ D.faults self.new.core.disk }
         ensures admitted { (before : ℕ) → HasAdmitted (run_of self.old) before → HasAdmitted (run_of self.new) before }
@@ -59,7 +60,8 @@ impl<D: Disk> Desk<D> {
         requires more { length self.old.answered.items < length (lane_lines self.old.script 0) }
         ensures fits { Fits self.new }
         ensures same { (self.new.script ≡ self.old.script) × (self.new.core.geometry ≡ self.old.core.geometry) × (self.new.core.phase ≡ self.old.core.phase) }
-        ensures played { (start : Flat) → HasPlayed D.content (run_of self.old) start → HasPlayed D.content (run_of self.new) start }
+        ensures played { (start : Flat) (first : D) → HasPlayed D.content D.moment D.left_since (run_of self.old) start first → HasPlayed D.content D.moment D.left_since (run_of self.new) start first }
+        ensures counted { (before : ℕ) → HasCounted (run_of self.old) before → HasCounted (run_of self.new) before }
         ensures records { Records D.faults (run_of self.old) (run_of self.new) }
         ensures faults { D.faults self.old.core.disk ≤ D.faults self.new.core.disk }
         ensures admitted { (before : ℕ) → HasAdmitted (run_of self.old) before → HasAdmitted (run_of self.new) before }
@@ -78,7 +80,8 @@ impl<D: Disk> Desk<D> {
         requires some { self.old.hand ≡ Some hand }
         ensures fits { Fits self.new }
         ensures same { (self.new.script ≡ self.old.script) × (self.new.core.geometry ≡ self.old.core.geometry) × (self.new.core.phase ≡ self.old.core.phase) }
-        ensures played { (start : Flat) → HasPlayed D.content (run_of self.old) start → HasPlayed D.content (run_of self.new) start }
+        ensures played { (start : Flat) (first : D) → HasPlayed D.content D.moment D.left_since (run_of self.old) start first → HasPlayed D.content D.moment D.left_since (run_of self.new) start first }
+        ensures counted { (before : ℕ) → HasCounted (run_of self.old) before → HasCounted (run_of self.new) before }
         ensures records { Records D.faults (run_of self.old) (run_of self.new) }
         ensures faults { D.faults self.old.core.disk ≤ D.faults self.new.core.disk }
         ensures admitted { (before : ℕ) → HasAdmitted (run_of self.old) before → HasAdmitted (run_of self.new) before }

@@ -4,6 +4,7 @@
 
 mod desks;
 mod journals;
+mod laws;
 mod loading;
 mod payloads;
 mod reserved;
@@ -12,5 +13,6 @@ mod sessions;
 mod tests;
 
 pub use journals::{Actor, Item};
+pub use laws::served_law;
 pub use payloads::op_of;
 pub use sessions::Session;

@@ -4,15 +4,16 @@ ghost use Rattle.std.specs.List.{sum_by, AllByRecursion};
 ghost use Rattle.bow_script.specs.Grammar.{IsAccepted, blocks_of};
 ghost use Rattle.bow_script.specs.Scripts.{script_of, lane_lines as read_lines};
 ghost use Rattle.bow_units.specs.Sizes.{IsBlockSize, IsValid};
-ghost use Rattle.bow_core.specs.Flat.{Flat, block_at};
+ghost use Rattle.bow_flat.specs.Flat.{Flat, block_at};
 ghost use Rattle.bow_core.specs.Requests.{IsAdmissible, bytes_of};
 ghost use Rattle.bow_core.specs.Standing.{StandsFor};
 ghost use Rattle.bow_session.specs.declared.journals.Actor.TheVariants.{Lane};
 ghost use Rattle.bow_session.specs.Contents.{AreTold, HasContent, IsReadOf, asked_in, content_in};
+ghost use Rattle.bow_session.specs.Cuts.{IsOpenedOn};
 ghost use Rattle.bow_session.specs.Lanes.{lane_lines};
 ghost use Rattle.bow_session.specs.Moments.{AreMoments, Explains};
 ghost use Rattle.bow_session.specs.Requests.{first_of};
-ghost use Rattle.bow_session.specs.Sessions.{HasPlayed, HasAdmitted, IsWhole, IsReady, IsOver, Records, IsAnsweredRead, IsRead, count_of, buffer_of, lanes_of, turns_left};
+ghost use Rattle.bow_session.specs.Sessions.{HasPlayed, HasCounted, HasAdmitted, IsWhole, IsReady, IsOver, Records, IsAnsweredRead, IsRead, count_of, buffer_of, lanes_of, turns_left};
 
 use crate::desks::Desk;
 use crate::journals::{Actor, Item};
@@ -49,6 +50,7 @@ impl<D: Disk> Session<D> {
     ///
     /// Conditions: the script has no section, or one of one lane, of writes and reads of 1 to 16 blocks, at most 65,536
     /// of them and of their blocks; no request waits in the device, and it can still take in as many as the script has.
+    /// Clauses on cuts speak of the disk as it was `first`, before the device was opened on it.
     pub fn load(
         alloc: Global,
         core: Core<D>,
@@ -61,7 +63,8 @@ impl<D: Disk> Session<D> {
         requires place { core.waiting ≡ None }
         requires tickets { core.admitted + length (read_lines 0 script) < 2 ^ 64 }
         ensures fresh { IfOk result (λ s. s ≡ record { core = core; script = script; answered = [] ∷ []; journal = []; moments = [] }) }
-        ensures played { (start : Flat) → StandsFor core.phase core.geometry.blocks (D.content core.disk) start → IfOk result (λ s. HasPlayed D.content s start) }
+        ensures played { (start : Flat) (first : D) → StandsFor core.phase core.geometry.blocks (D.content core.disk) start → IsOpenedOn D.moment D.left_since first core → IfOk result (λ s. HasPlayed D.content D.moment D.left_since s start first) }
+        ensures counted { IfOk result (λ s. HasCounted s core.calls) }
         ensures kept { IfErr result (λ e. e.0 ≡ core) }
     {
         match Memory::take(alloc, only_lane(&script), core.geometry()) {
@@ -110,7 +113,8 @@ impl<D: Disk> Session<D> {
         ensures script { self.new.script ≡ self.old.script }
         ensures geometry { self.new.core.geometry ≡ self.old.core.geometry }
         ensures phase { self.new.core.phase ≡ self.old.core.phase }
-        ensures played { (start : Flat) → HasPlayed D.content self.old start → HasPlayed D.content self.new start }
+        ensures played { (start : Flat) (first : D) → HasPlayed D.content D.moment D.left_since self.old start first → HasPlayed D.content D.moment D.left_since self.new start first }
+        ensures counted { (before : ℕ) → HasCounted self.old before → HasCounted self.new before }
         ensures records { Records D.faults self.old self.new }
         ensures moments { AreMoments self.new.moments self.new.journal self.new.core.calls }
         ensures faults { D.faults self.old.core.disk ≤ D.faults self.new.core.disk }
@@ -126,15 +130,17 @@ impl<D: Disk> Session<D> {
     }
 
     /// Makes steps until all requests are answered. With one lane each turn has one actor that is ready, so the number
-    /// of the schedule has no effect.
+    /// of the schedule has no effect. Since the moment of an item a cut leaves a state on the way of the journal that has
+    /// the item: no later step forgets an earlier flush.
     pub fn finish(&mut self, _number: u64)
         ensures over { IsOver self.new }
         ensures idle { self.new.core.waiting ≡ None }
         ensures script { self.new.script ≡ self.old.script }
         ensures geometry { self.new.core.geometry ≡ self.old.core.geometry }
         ensures phase { self.new.core.phase ≡ self.old.core.phase }
-        ensures played { (start : Flat) → HasPlayed D.content self.old start → HasPlayed D.content self.new start }
-        ensures whole { (start : Flat) → HasPlayed D.content self.old start → IsWhole D.content self.new start }
+        ensures played { (start : Flat) (first : D) → HasPlayed D.content D.moment D.left_since self.old start first → HasPlayed D.content D.moment D.left_since self.new start first }
+        ensures counted { (before : ℕ) → HasCounted self.old before → HasCounted self.new before }
+        ensures whole { (start : Flat) (first : D) → HasPlayed D.content D.moment D.left_since self.old start first → IsWhole D.content D.moment D.left_since self.new start first }
         ensures told { AreTold self.new }
         ensures moments { AreMoments self.new.moments self.new.journal self.new.core.calls }
         ensures faults { D.faults self.old.core.disk ≤ D.faults self.new.core.disk }
@@ -152,7 +158,7 @@ impl<D: Disk> Session<D> {
         ensures idle { IsTrue result → self.now.core.waiting ≡ None }
         ensures more { result ≡ false → IsReady self.now (Lane 0) }
         ensures moments { AreMoments self.now.moments self.now.journal self.now.core.calls }
-        ensures whole { (start : Flat) → IsTrue result → HasPlayed D.content self.now start → IsWhole D.content self.now start }
+        ensures whole { (start : Flat) (first : D) → IsTrue result → HasPlayed D.content D.moment D.left_since self.now start first → IsWhole D.content D.moment D.left_since self.now start first }
         ensures told { IsTrue result → AreTold self.now }
     {
         self.desk.answered.len() == only_lane(&self.desk.script).len()

@@ -1,2 +1,4 @@
+pub mod Checking
+pub mod Commands
 pub mod Playing
 mod Transfers

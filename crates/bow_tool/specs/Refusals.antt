@@ -3,8 +3,9 @@ use Rattle.std.specs.Prelude.{ℕ, List, [], ◌∷◌, ◌++◌, codes}
 use Rattle.std.specs.Fmt.{decimal}
 use Rattle.bow_core.specs.declared.device.OpenFault.{OpenFault}
 use Rattle.bow_core.specs.declared.device.OpenFault.TheVariants as opens
+use Rattle.bow_report.specs.Chains.{chain_fault_text}
 use Rattle.bow_tool.specs.declared.refusals.Refusal.{Refusal}
-use Rattle.bow_tool.specs.declared.refusals.Refusal.TheVariants.{BadWords, BadScript, SourceFault, DiskFault, NeedsRestore, NoMemory, BadGeometry}
+use Rattle.bow_tool.specs.declared.refusals.Refusal.TheVariants.{BadWords, BadScript, SourceFault, DiskFault, NeedsRestore, BadChain, NoMemory, BadGeometry}
 
 -- the status with which a refusal ends
 abbrev pub status_of : Refusal → ℕ
@@ -13,6 +14,7 @@ status_of (BadScript line) = 3
 status_of SourceFault = 4
 status_of DiskFault = 6
 status_of NeedsRestore = 8
+status_of (BadChain fault) = 9
 status_of NoMemory = 11
 status_of (BadGeometry g) = 13
 
@@ -30,6 +32,7 @@ refusal_text (BadScript line) = codes "bad script at line " ++ decimal line
 refusal_text SourceFault = codes "source fault"
 refusal_text DiskFault = codes "disk fault"
 refusal_text NeedsRestore = codes "needs restore"
+refusal_text (BadChain fault) = chain_fault_text fault
 refusal_text NoMemory = codes "no memory"
 refusal_text (BadGeometry g) = codes "bad geometry " ++ decimal g.block_size ++ codes " " ++ decimal g.blocks
 

@@ -1,6 +1,7 @@
-//! The program's top call: from the words of the command line and a script's bytes to a transcript.
+//! The program's top call: from the words of the command line, a script's bytes and an image to what is told of them.
 #![tactic(auto)]
 
+mod checks;
 mod refusals;
 mod streams;
 mod tools;

@@ -3,6 +3,8 @@ ghost use Rattle.std.specs.Prelude.{◌≡◌, IfOk};
 ghost use Rattle.std.specs.String.{string_bytes};
 ghost use Rattle.bow_tool.specs.Refusals.{status_of, refusal_line};
 
+use bow_chain::ChainFault;
+use bow_report::ChainFaultText;
 use bow_units::{Geometry, NoMemory};
 use std::alloc::Global;
 use std::fmt;
@@ -16,10 +18,12 @@ pub enum Refusal {
     BadScript(u32),
     /// A call of the source failed.
     SourceFault,
-    /// A call of the disk failed, as the sizes were asked or the device was opened.
+    /// A call of the disk failed, as the sizes were asked, the device was opened or the chain of logs was read.
     DiskFault,
     /// Block 0 holds a log: the device has to be restored first.
     NeedsRestore,
+    /// Block 0 begins with a magic, and the chain of logs behind it is not sound. This is its first fault.
+    BadChain(ChainFault),
     /// There was no memory.
     NoMemory,
     /// No device has these sizes.
@@ -48,6 +52,7 @@ impl Refusal {
             Refusal::SourceFault => 4,
             Refusal::DiskFault => 6,
             Refusal::NeedsRestore => 8,
+            Refusal::BadChain(_) => 9,
             Refusal::NoMemory => 11,
             Refusal::BadGeometry(_) => 13,
         }
@@ -75,6 +80,7 @@ impl fmt::Display for Refusal {
             Refusal::SourceFault => f.write_str("source fault"),
             Refusal::DiskFault => f.write_str("disk fault"),
             Refusal::NeedsRestore => f.write_str("needs restore"),
+            Refusal::BadChain(fault) => write!(f, "{}", ChainFaultText(*fault)),
             Refusal::NoMemory => f.write_str("no memory"),
             Refusal::BadGeometry(sizes) => {
                 let block_size = sizes.block_size;

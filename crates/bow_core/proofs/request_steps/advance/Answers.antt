@@ -1,6 +1,6 @@
 use Rattle.std.proofs.Common.{◌≡◌, Some}
 use Rattle.bow_disk.specs.Disk.{Content, IsShaped}
-use Rattle.bow_core.specs.Flat.{after}
+use Rattle.bow_flat.specs.Flat.{after}
 use Rattle.bow_core.specs.Requests.{progress_event}
 use Rattle.bow_core.specs.Insides.{progress_of, calls_in}
 use Rattle.bow_core.proofs.Told.{cuts_go}

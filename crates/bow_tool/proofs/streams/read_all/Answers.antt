@@ -1,4 +1,4 @@
-use Rattle.std.proofs.Common.{◌≡◌, length, rules, arith}
+use Rattle.std.proofs.Common.{rules}
 use Rattle.bow_tool.proofs.streams.read_all.Goals as goal
 
 pub returns-clause-cause : goal.returns-clause-cause

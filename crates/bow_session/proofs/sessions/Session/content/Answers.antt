@@ -1,10 +1,9 @@
 use Rattle.std.proofs.Common.{◌≡◌, ◌-◌, ◌<◌, ℕ, List, length, ap, sym, subst, ◌∙◌, IfSome, IsSome}
 use Rattle.bow_units.specs.declared.sizes.Geometry.{Geometry}
-use Rattle.bow_core.specs.Flat.{block_at}
+use Rattle.bow_flat.specs.Flat.{block_at}
 use Rattle.bow_core.specs.Requests.{IsAdmissible, bytes_of}
 use Rattle.bow_session.specs.declared.journals.Item.TheVariants.{Got}
 use Rattle.bow_session.specs.Contents.{HasContent, asked_in, content_in}
-use Rattle.bow_session.specs.Desks.{run_of}
 use Rattle.bow_session.specs.Requests.{first_of}
 use Rattle.bow_session.proofs.Ending.{item_is}
 use Rattle.bow_session.proofs.Reading.{answered_admissible, content_is, content_exact}

@@ -1,13 +1,16 @@
-use Rattle.std.proofs.Common.{◌+◌, ◌<◌, ◌≤◌, ◌^◌, List, length, ap, sym, subst, ◌∙◌}
+use Rattle.std.proofs.Common.{◌+◌, ◌<◌, ◌≤◌, ◌^◌, ◌≡◌, Some, List, length, ap, sym, subst, ◌∙◌}
 use Rattle.std.specs.List.{sum_by}
 use Rattle.bow_units.specs.declared.sizes.Geometry.{Geometry}
 use Rattle.bow_units.specs.Sizes.{IsValid}
+use Rattle.bow_disk.specs.Disk.{Content}
 use Rattle.bow_script.specs.declared.scripts.Line.{Line}
 use Rattle.bow_script.specs.Grammar.{blocks_of}
 use Rattle.bow_script.specs.Scripts.{lane_lines as read_lines}
 use Rattle.bow_session.specs.Lanes.{lane_lines}
 use Rattle.bow_session.specs.Requests.{AreFor}
 use Rattle.bow_session.proofs.Ending.{first_moments, first_fit, first_room, one_lane, still_one, first_played}
+use Rattle.bow_session.specs.Cuts.{cuts_of}
+use Rattle.bow_session.proofs.Cutting.{blocks_same, crash_stands}
 use Rattle.bow_session.proofs.Reading.{no_reads}
 use Rattle.bow_session.proofs.sessions.Session.load.Goals as goal
 
@@ -27,4 +30,11 @@ invariant_of-result g c =
     }
 
 pub returns-in-Ok-clause-played : goal.returns-in-Ok-clause-played
-returns-in-Ok-clause-played g c start stands = first_played _ _ _ _ _ _ _ _ c.in-Ok.ensures.empty.0 c.in-Ok.ensures.empty.1 c.requires.place stands
+returns-in-Ok-clause-played g c start first stands opened =
+    let core = c.args.core in
+    let listed : (k : Content) → g.D.Disk.content core.disk ≡ Some k → length k.candidates ≡ core.geometry.blocks = λ k is. (g.met.D.Disk.shaped core.disk k is c.geometry.result c.geometry.ensures.stated).listed ∙ blocks_same c.geometry.result core.geometry c.geometry.ensures.is in
+    record {
+      played = first_played _ _ _ _ _ _ _ _ _ (cuts_of g.D.Disk.content g.D.Disk.moment g.D.Disk.left_since first core.disk) c.in-Ok.ensures.empty.0 c.in-Ok.ensures.empty.1 c.in-Ok.ensures.empty.2 c.requires.place stands
+          opened.early (λ image leaves. crash_stands core.phase core.geometry.blocks (g.D.Disk.content core.disk) start image listed stands leaves);
+      counted = opened.counted;
+    }

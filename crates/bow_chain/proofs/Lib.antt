@@ -1,0 +1,14 @@
+pub mod Hops
+pub mod Moved
+pub mod Counting
+pub mod Together
+pub mod Tested
+pub mod Firsts
+pub mod Decided
+pub mod OwnBlocks
+pub mod Sectors
+pub mod Quiet
+pub mod SumRuns
+pub mod LastSum
+pub mod FieldsAt
+pub mod Loads

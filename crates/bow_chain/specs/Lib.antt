@@ -1,0 +1,10 @@
+pub mod Contents
+pub mod Places
+pub mod Sound
+pub mod Counting
+pub mod Kept
+pub mod Faults
+pub mod Chains
+pub mod Reads
+pub mod Answers
+pub mod Laws

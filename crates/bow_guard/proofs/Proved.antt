@@ -1,0 +1,143 @@
+-- The laws.
+use Rattle.std.proofs.Common.{ℕ, ◌<◌, Bool, true, List, [], ◌∷◌, ◌++◌, ◌≡◌, arith, refl, sym, ap, ◌∙◌, subst, inl, inr}
+use Rattle.std.specs.List.{AllByRecursion as Each}
+use Rattle.bow_units.specs.declared.sizes.Geometry.{Geometry}
+use Rattle.bow_log.specs.Generations.{Backup, Generation, IsBackup, StartsWith0, IsGeneration}
+use Rattle.bow_chain.specs.Contents.{Contents, run_of}
+use Rattle.bow_chain.specs.Places.{pass, base}
+use Rattle.bow_chain.specs.Sound.{log_in, sum_at, StandsBehind, IsSound}
+use Rattle.bow_chain.specs.Counting.{AtSums, AtLogs}
+use Rattle.bow_chain.proofs.Moved.{run_same}
+use Rattle.bow_chain.proofs.Counting.{entries_map, places_map, some_inj}
+use Rattle.bow_guard.specs.Device.{IsLoose, Steady, Safe, Device, LogGiven, with_backup}
+use Rattle.bow_guard.specs.Guard.{KeptBehind}
+use Rattle.bow_guard.specs.Laws.{SameWhereCounted, CutsKeep, NeededIsNotLoose, LooseWrites, LooseKinds, FlushKeeps, LastFlush, CopiesLogged, LinkLogged, MoveLogged, LogRewritten, CutsStand, WritesInPlace, WritesToFree, ReadsInPlace, FlushesInPlace, DiscardsInPlace, PrepareArms, FirstLogGiven, ReadsArming, PrepareEnds, CommitDecides, DecidesAgain, FlushesDeciding, ReadsDeciding, CommitEnds, Together, CutsAreAhead}
+use Rattle.bow_guard.proofs.Kept.{same_keeps}
+use Rattle.bow_guard.proofs.Device.{guarded_cut, steady_safe, safe_tight, loose_write, kinds_changed, flushed, cleaned, copy_logged, link_logged, move_logged, rewritten}
+use Rattle.bow_guard.proofs.Phases.{cut_stands, together}
+use Rattle.bow_guard.proofs.PhaseActs.{pending_written, pending_kept, pending_flushed, pending_discarded, arms, arms_written, arms_flushed, arming_read, deciding_written, deciding_again, deciding_flushed, deciding_read, committed_flushed, committed_again, ahead_cut}
+
+pub same_where_counted : SameWhereCounted
+same_where_counted g used image other log older sound zeroth sums logs bases =
+    let after = same_keeps g used (λ x. image (base (log ∷ older) x)) (λ x. other x ≡ image x) (λ x. other x ≡ image x) image other log older (λ x h. h) (λ x h. h)
+    (record { behind = sound.behind; at_sums = sums; at_logs = logs; at_used = bases; kept = λ x on u. refl }) in
+    let is : IsSound g other log older = record { spelled = ap (log_in g) zeroth ∙ sound.spelled; behind = after.behind } in
+    (is, record { log = log; older = older; sound = is; kept = after.kept })
+
+pub cuts_keep : CutsKeep
+cuts_keep g used saved d image k cut = guarded_cut g used saved d image k cut
+
+-- what is kept at places that may not be written in place
+needed_of : (g : Geometry) (used : ℕ → Bool) (saved : Contents) (d : Device) (P : ℕ → Type 0) (l log : Generation) (older : List Generation) → ((x : ℕ) → P x → IsLoose d x → ⊥) → l ≡ log → KeptBehind g P used saved d.now l older
+    → (ls : List Generation) × StandsBehind g d.now log ls × AtSums (λ x. IsLoose d x → ⊥) (λ x. x) log.entries × AtLogs (λ x. IsLoose d x → ⊥) (pass log.entries) ls × ((x : ℕ) → x < g.blocks → used x ≡ true → IsLoose d (base (log ∷ ls) x) → ⊥)
+needed_of g used saved d P l log older tight is k =
+    let h = subst (λ m. KeptBehind g P used saved d.now m older) is k in (
+      older,
+      h.behind,
+      entries_map P (λ x. IsLoose d x → ⊥) (λ x. x) (λ x. x) tight log.entries h.at_sums,
+      places_map P (λ x. IsLoose d x → ⊥) (λ x. x) (λ x. x) (pass log.entries) tight older h.at_logs,
+      λ x on u. tight _ (h.at_used x on u),
+    )
+
+pub needed_is_not_loose : NeededIsNotLoose
+needed_is_not_loose g used saved d v log k has spelled = elim (k.heads v has) [
+  | inl is ↦ needed_of g used saved d (Steady g d) d.log log d.older (λ x s. safe_tight g d x (steady_safe g d x s)) (some_inj (sym is ∙ spelled)) k.log
+  | inr is ↦ needed_of g used saved d (Safe g d) d.clean_log log d.clean_older (λ x s. safe_tight g d x s) (some_inj (sym is ∙ spelled)) k.clean
+]
+
+pub loose_writes : LooseWrites
+loose_writes g used saved d e b above loose touches logs others k = loose_write g used saved d e b above (λ s. safe_tight g d b s loose) touches logs others k
+
+pub loose_kinds : LooseKinds
+loose_kinds g used saved d e now may logs others zeroth k = kinds_changed g used saved d e now may logs (λ x s. others x (safe_tight g d x s)) zeroth k
+
+pub flush_keeps : FlushKeeps
+flush_keeps g used saved d e now may has logs kinds picked k = flushed g used saved d e now may has logs kinds picked k
+
+pub last_flush : LastFlush
+last_flush g used saved d e now may given log older clean kinds picked k = cleaned g used saved d e now may given log older clean kinds picked k
+
+each_last : (P : Backup → Type 0) (es : List Backup) (b : Backup) → Each P (es ++ b ∷ []) → P b
+each_last P [] b all = all.0
+each_last P (e ∷ es) b all = each_last P es b all.1
+
+-- the dest holds what it held before the log was given
+sum_after : (g : Geometry) (d e : Device) (b : Backup) → IsBackup g b → LogGiven g b d e → sum_at b.source (run_of d.now b.dest b.count) ≡ b.sum → sum_at b.source (run_of e.now b.dest b.count) ≡ b.sum
+sum_after g d e b ok given sum = ap (sum_at b.source) (run_same e.now d.now b.dest b.count (λ x low high. given.write.others_now x (λ is. omega (arith, ok.dest_not_0)))) ∙ sum
+
+pub copies_logged : CopiesLogged
+copies_logged g used saved d e b given clean log older valid made sum k = copy_logged g used saved d e b ok given clean k log older with_it made (sum_after g d e b ok given sum)
+  where
+    with_it : IsGeneration g (with_backup d.log b)
+    with_it = subst (IsGeneration g) log valid
+
+    ok : IsBackup g b
+    ok = each_last (IsBackup g) d.log.entries b with_it.each
+
+pub link_is_logged : LinkLogged
+link_is_logged g used saved d e b given clean entries sequence older valid whole spelled sum k = link_logged g used saved d e b ok given clean k starts.0 starts.1 entries sequence older valid whole spelled (sum_after g d e b ok given sum)
+  where
+    ok : IsBackup g b
+    ok = (subst (Each (IsBackup g)) entries valid.each).0
+
+    starts : StartsWith0 (b ∷ [])
+    starts = subst StartsWith0 entries valid.start
+
+pub move_is_logged : MoveLogged
+move_is_logged g used saved d e from to block write is clean log above inside older clean_log clean_older current picked others zeroth k =
+    move_logged g used saved d e from to block write is clean log above inside older clean_log clean_older
+    (λ s. safe_tight g d from s (inr (inr current))) (λ s. safe_tight g d to s (inl picked)) others zeroth k
+
+pub log_rewritten : LogRewritten
+log_rewritten g used saved d now may block is write k = rewritten g used saved d now may block is write k
+
+pub cuts_stand : CutsStand
+cuts_stand g f content d image sizes valid leaves cut = cut_stands g f d image content (omega (arith, sizes.enough)) valid leaves cut
+
+pub writes_in_place : WritesInPlace
+writes_in_place g f n b v now new_now may new_may write is = (pending_written g f n b v now new_now may new_may write is, pending_written g f n b v now new_now may new_may write is)
+
+pub writes_to_free : WritesToFree
+writes_to_free g f b v now new_now may new_may none write is = pending_kept g f b v now new_now may new_may none write is
+
+pub reads_in_place : ReadsInPlace
+reads_in_place g f n b v may is = is
+
+pub flushes_in_place : FlushesInPlace
+flushes_in_place g f n now may reads flushed = pending_flushed g f n now may reads flushed
+
+pub discards_in_place : DiscardsInPlace
+discards_in_place g f n e may is = pending_discarded g f n e may is
+
+pub prepare_arms : PrepareArms
+prepare_arms g f n d b flushed older zeroth valid entries sequence source count sum kind picked same unchanged = arms g f n d b flushed older zeroth valid entries sequence source count sum kind picked same unchanged
+
+pub first_log_given : FirstLogGiven
+first_log_given g f d now may block is write a = arms_written g f d now may block is write a
+
+pub reads_arming : ReadsArming
+reads_arming g f n b v d a = arming_read g f n b v d a
+
+pub prepare_ends : PrepareEnds
+prepare_ends g f d e now may given log older clean kinds picked a = arms_flushed g f d e now may given log older clean kinds picked a
+
+pub commit_decides : CommitDecides
+commit_decides g f n d now may content flushed write plain current_0 current k = deciding_written g f n d now may content k flushed write plain current_0 current
+
+pub decides_again : DecidesAgain
+decides_again g f d now may content write a = deciding_again g f d now may content write a
+
+pub flushes_deciding : FlushesDeciding
+flushes_deciding g f d may content flushed has a = deciding_flushed g f d may content flushed has a
+
+pub reads_deciding : ReadsDeciding
+reads_deciding g f n b v content d zeroth there a = deciding_read g f n b v content d zeroth there a
+
+pub commit_ends : CommitEnds
+commit_ends g f n d may content valid wrote flushed a = (committed_flushed g f n d content may valid a wrote flushed, committed_again g f n d content may a wrote flushed)
+
+pub held_together : Together
+held_together g f image valid has = together g f image valid has
+
+pub cuts_are_ahead : CutsAreAhead
+cuts_are_ahead g f may image sizes valid pending current cut = ahead_cut g f may image sizes valid pending current cut

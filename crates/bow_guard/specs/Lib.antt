@@ -1,0 +1,6 @@
+pub mod Cuts
+pub mod Device
+pub mod Guard
+pub mod Standing
+pub mod Phases
+pub mod Laws

@@ -1,0 +1,77 @@
+// What holds of the device from the checkpoint on, whatever code drives it.
+ghost use Rattle.bow_guard.specs.Laws.{SameWhereCounted, CutsKeep, NeededIsNotLoose, LooseWrites, LooseKinds, FlushKeeps, LastFlush, CopiesLogged, LinkLogged, MoveLogged, LogRewritten, CutsStand, WritesInPlace, WritesToFree, ReadsInPlace, FlushesInPlace, DiscardsInPlace, PrepareArms, FirstLogGiven, ReadsArming, PrepareEnds, CommitDecides, DecidesAgain, FlushesDeciding, ReadsDeciding, CommitEnds, Together, CutsAreAhead, CrashesAreCuts, WritesAreGiven, WritesArePut, FlushesAreDone};
+
+/// A cut of a guarded device leaves an image that is sound and keeps the checkpoint. Two images that are the same where
+/// it counts keep the same, so it is enough to guard those places; and none of them may be written in place.
+pub fn guard_law()
+    ensures same { SameWhereCounted }
+    ensures cuts { CutsKeep }
+    ensures needed { NeededIsNotLoose }
+{}
+
+/// What requests do while the device is guarded: writes in place, reads, flushes and discards keep the guard, done or
+/// failed.
+pub fn request_law()
+    ensures writes { LooseWrites }
+    ensures kinds { LooseKinds }
+    ensures flush { FlushKeeps }
+{}
+
+/// What the worker's batches do: a log that is given, done or failed, keeps the guard, and its last flush makes it the
+/// durable one. Their copies are writes in place.
+pub fn batch_law()
+    ensures copies { CopiesLogged }
+    ensures link { LinkLogged }
+    ensures moves { MoveLogged }
+    ensures rewrites { LogRewritten }
+    ensures last_flush { LastFlush }
+{}
+
+/// In every phase, whatever a cut leaves stands for the flat state.
+pub fn phase_law()
+    ensures { CutsStand }
+{}
+
+/// What requests do in trim and once committed.
+pub fn in_place_law()
+    ensures writes { WritesInPlace }
+    ensures reads { ReadsInPlace }
+    ensures flush { FlushesInPlace }
+    ensures discards { DiscardsInPlace }
+{}
+
+/// The acts of a prepare, from its copies of block 0 on, each done or failed.
+pub fn prepare_law()
+    ensures copies { WritesToFree }
+    ensures arms { PrepareArms }
+    ensures first_log { FirstLogGiven }
+    ensures reads { ReadsArming }
+    ensures ends { PrepareEnds }
+{}
+
+/// The acts of a commit, from its deciding write on, each done or failed; a commit in deciding makes them all again.
+pub fn commit_law()
+    ensures decides { CommitDecides }
+    ensures again { DecidesAgain }
+    ensures flush { FlushesDeciding }
+    ensures reads { ReadsDeciding }
+    ensures ends { CommitEnds }
+{}
+
+/// Before the decision the checkpoint is held, whatever a cut leaves.
+pub fn together_law()
+    ensures { Together }
+{}
+
+/// Once a log's current block 0 is put into block 0, what a cut left stands as after a commit.
+pub fn ahead_law()
+    ensures { CutsAreAhead }
+{}
+
+/// The lists that a disk tells, as functions of a block's number: what the laws say of those holds of the disk.
+pub fn disk_law()
+    ensures crashes { CrashesAreCuts }
+    ensures writes { WritesAreGiven }
+    ensures put { WritesArePut }
+    ensures flush { FlushesAreDone }
+{}

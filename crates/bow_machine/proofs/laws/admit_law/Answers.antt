@@ -1,0 +1,5 @@
+use Rattle.bow_machine.proofs.Openings.{admit_stands}
+use Rattle.bow_machine.proofs.laws.admit_law.Goals as goal
+
+pub returns : goal.returns
+returns c = admit_stands

@@ -1,0 +1,5 @@
+use Rattle.bow_machine.proofs.Openings.{opening_stands}
+use Rattle.bow_machine.proofs.laws.opening_law.Goals as goal
+
+pub returns : goal.returns
+returns c = opening_stands

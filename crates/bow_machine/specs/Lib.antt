@@ -1,0 +1,12 @@
+pub mod Requests
+pub mod Memory
+pub mod Calls
+pub mod Tasks
+pub mod Steps
+pub mod Ready
+pub mod Standing
+pub mod Laws
+pub mod Runs
+pub mod Rows
+pub mod Consequences
+pub mod Ahead
