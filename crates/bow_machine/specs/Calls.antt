@@ -4,6 +4,7 @@ use Rattle.bow_units.specs.declared.sizes.Geometry.{Geometry}
 use Rattle.bow_chain.specs.Contents.{Contents}
 use Rattle.bow_guard.specs.Cuts.{Candidates, IsFlushed, WriteGiven}
 
+-- a call on the disk: a read of a block, a write of this content to a block, or a flush
 pub data Call : Type 0 where
   ReadCall : ℕ → Call
   WriteCall : ℕ → List ℕ → Call

@@ -39,6 +39,7 @@ pub data Hand : Type 0 where
   Preparing : Ticket → ℕ → ℕ → PrepareAct → Hand
   Committing : Ticket → Bool → CommitAct → Hand
 
+-- what the device keeps in memory
 pub record Memory : Type 0 where
   pub phase : Phase
   -- the kind of each block
@@ -60,6 +61,7 @@ has_command (Batching b) = false
 has_command (Preparing t c b a) = true
 has_command (Committing t again a) = true
 
+-- the job moves the current block 0
 abbrev pub is_move : Job → Bool
 is_move (Move from to) = true
 is_move Rewrite = false
@@ -84,6 +86,7 @@ picks (Move from to) = record { first = to; count = 1 }
 abbrev pub reserved_by : Batch → Extent
 reserved_by b = if log_tried b.progress.job b.progress.done then record { first = 0; count = 0 } else picks b.progress.job
 
+-- the picked blocks of what is in hand
 abbrev pub reserved : Hand → Extent
 reserved (Batching b) = reserved_by b
 reserved Empty = record { first = 0; count = 0 }
@@ -95,9 +98,11 @@ abbrev pub place_with : Option Generation → ℕ → ℕ
 place_with None b = b
 place_with (Some log) b = if b == 0 then log.current else b
 
+-- where the content of a block lies
 abbrev pub place_of : Memory → ℕ → ℕ
 place_of m b = place_with m.log b
 
+-- the block holds the current content of block 0
 abbrev pub is_kind_current : Kind → Bool
 is_kind_current Current = true
 is_kind_current Sector0 = false

@@ -20,6 +20,7 @@ is_ready_for g m r Flush = not (has_command m.hand)
 is_ready_for g m r Prepare = false
 is_ready_for g m r Commit = false
 
+-- the same of the request of a ticket; one that does not wait is never ready
 abbrev pub is_map_ready : Geometry → Memory → Option Request → Bool
 is_map_ready g m None = false
 is_map_ready g m (Some r) = is_ready_for g m r r.op
@@ -37,6 +38,7 @@ is_command_ready m (Batching b) = false
 is_command_ready m (Preparing t c b act) = true
 is_command_ready m (Committing t again act) = true
 
+-- the turn makes a step
 abbrev pub is_ready : Geometry → Memory → Turn → Bool
 is_ready g m (Map ticket) = is_map_ready g m (request_of ticket m.requests)
 is_ready g m Worker = is_worker_ready g m m.hand m.phase

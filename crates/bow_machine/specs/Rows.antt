@@ -14,9 +14,11 @@ use Rattle.bow_machine.specs.Steps.{Told, Idle, Moved, Wrote, Got, Answered}
 use Rattle.bow_machine.specs.Laws.{opened}
 use Rattle.bow_machine.specs.Runs.{Run, played}
 
+-- sixteen blocks of 512 bytes
 abbrev pub sixteen : Geometry
 sixteen = record { block_size = 512; blocks = 16 }
 
+-- the device just opened, and no call fails
 abbrev pub fresh : Run
 fresh = record { memory = opened 16; blocks = map (λ b. b ∷ []) (range_with_len 0 16); calls = []; told = []; failing = [] }
 
@@ -24,12 +26,15 @@ fresh = record { memory = opened 16; blocks = map (λ b. b ∷ []) (range_with_l
 abbrev pub write : ℕ → ℕ → Op
 write b seed = Write (record { first = b; count = 1 }) (b ∷ seed ∷ [])
 
+-- a read of one block
 abbrev pub read : ℕ → Op
 read b = Read (record { first = b; count = 1 }) []
 
+-- a discard of these blocks
 abbrev pub discard : ℕ → ℕ → Op
 discard first count = Discard (record { first = first; count = count })
 
+-- what is left after these requests, from the opened device on
 abbrev pub run_of_script : List Op → Run
 run_of_script ops = played sixteen ops 0 fresh
 
@@ -39,6 +44,7 @@ bare (ReadCall b) = ReadCall b
 bare (WriteCall b v) = WriteCall b []
 bare FlushCall = FlushCall
 
+-- the outcome of an answer
 abbrev pub outcome_told : Told → Option Outcome
 outcome_told (Answered t op outcome) = Some outcome
 outcome_told Idle = None
@@ -55,6 +61,7 @@ data_in Flush = None
 data_in Prepare = None
 data_in Commit = None
 
+-- the data of an answered read
 abbrev pub data_told : Told → Option (List ℕ)
 data_told (Answered t op outcome) = data_in op
 data_told Idle = None
@@ -62,12 +69,15 @@ data_told Moved = None
 data_told (Wrote t i) = None
 data_told (Got t i) = None
 
+-- the outcomes of all answers, in their order
 abbrev pub outcomes_of : Run → List Outcome
 outcomes_of run = filter_map outcome_told run.told
 
+-- the data of all answered reads, in their order
 abbrev pub data_of : Run → List (List ℕ)
 data_of run = filter_map data_told run.told
 
+-- a backup of one block, which held this
 abbrev pub backup : ℕ → ℕ → List ℕ → Backup
 backup source dest content = record { source = source; dest = dest; count = 1; sum = sum_at source (content ∷ []) }
 
@@ -88,6 +98,7 @@ NoSpaceRow = outcomes_of (run_of_script (discard 13 3 ∷ Prepare ∷ write 1 5 
 abbrev pub MovedData : Type 0
 MovedData = data_of (run_of_script (discard 8 8 ∷ Prepare ∷ read 0 ∷ write 0 5 ∷ read 0 ∷ write 8 6 ∷ read 0 ∷ read 8 ∷ [])) ≡ (0 ∷ []) ∷ (0 ∷ 5 ∷ []) ∷ (0 ∷ 5 ∷ []) ∷ (8 ∷ 6 ∷ []) ∷ []
 
+-- its log names the new place
 abbrev pub MovedLog : Type 0
 MovedLog = (run_of_script (discard 8 8 ∷ Prepare ∷ read 0 ∷ write 0 5 ∷ read 0 ∷ write 8 6 ∷ [])).memory.log ≡ Some (record { restoring = false; sequence = 0; current = 10; entries = backup 0 9 (0 ∷ []) ∷ [] })
 
@@ -96,6 +107,7 @@ abbrev pub BackupsRow : Type 0
 BackupsRow = (run_of_script (discard 8 8 ∷ Prepare ∷ write 1 5 ∷ write 10 6 ∷ [])).memory.log
     ≡ Some (record { restoring = false; sequence = 0; current = 8; entries = backup 0 9 (0 ∷ []) ∷ backup 1 10 (1 ∷ []) ∷ backup 10 11 (1 ∷ []) ∷ [] })
 
+-- a write of several blocks, of this payload
 abbrev pub write_run : ℕ → ℕ → List ℕ → Op
 write_run first count payload = Write (record { first = first; count = count }) payload
 
@@ -118,10 +130,12 @@ abbrev pub long_run : Run
 long_run = played (record { block_size = 512; blocks = 64 }) (discard 30 34 ∷ Prepare ∷ map (λ i. write i 5) (range_with_len 1 20)) 0
     (record { memory = opened 64; blocks = map (λ b. b ∷ []) (range_with_len 0 64); calls = []; told = []; failing = [] })
 
+-- the source and the dest of each entry of a log
 abbrev pub ends_of : Option Generation → List (ℕ × ℕ)
 ends_of None = []
 ends_of (Some log) = map (λ e. (e.source, e.dest)) log.entries
 
+-- the sequence of a log
 abbrev pub sequence_of : Option Generation → ℕ
 sequence_of None = 0
 sequence_of (Some log) = log.sequence

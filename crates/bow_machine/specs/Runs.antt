@@ -31,15 +31,16 @@ abbrev pub fails : Run → Bool
 fails run = list_any (λ number. number == length run.calls + 1) run.failing
 
 -- what a call leaves: one that fails, too, has its effect
-
 abbrev pub blocks_after : List (List ℕ) → Option Call → List (List ℕ)
 blocks_after blocks (Some (WriteCall b v)) = slice_set blocks b v
 blocks_after blocks call = blocks
 
+-- the calls, and this one where one was made
 abbrev pub with_call : List Call → Option Call → List Call
 with_call calls None = calls
 with_call calls (Some call) = calls ++ call ∷ []
 
+-- what was told of requests, and this where a step tells of one
 abbrev pub with_told : List Told → Told → List Told
 with_told told Idle = told
 with_told told Moved = told
@@ -64,6 +65,7 @@ abbrev pub served : ℕ → Geometry → Ticket → Run → Run
 served zero g ticket run = run
 served (suc most) g ticket run = elim (is_none (request_of ticket run.memory.requests)) [ true ↦ run | false ↦ served most g ticket (stepped g (ready_turn g run.memory ticket) run) ]
 
+-- the request is taken in under a ticket of this serial number
 abbrev pub admitted : Op → ℕ → Run → Run
 admitted op serial run = record run { memory = record run.memory { requests = run.memory.requests ++ record { ticket = record { key = 0; serial = serial }; op = op; done = 0 } ∷ [] } }
 

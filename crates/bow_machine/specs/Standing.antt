@@ -200,6 +200,7 @@ pub record ForCommand (requests : List Request) (ticket : Ticket) : Type 0 where
   pub waits : request_of ticket requests ≡ Some command
   pub is_one : is_command command.op ≡ true
 
+-- what is in hand has read and written what it should
 abbrev pub HandHeld : Geometry → Memory → Hand → Contents → Candidates → Option Generation → Type 0
 HandHeld g m Empty now may log = Unit {0}
 HandHeld g m (Batching b) now may (Some log) = BatchHeld g m b now may log

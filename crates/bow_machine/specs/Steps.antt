@@ -48,6 +48,7 @@ payload_of Flush = []
 payload_of Prepare = []
 payload_of Commit = []
 
+-- the extent of a request
 abbrev pub extent_of : Op → Extent
 extent_of (Read e p) = e
 extent_of (Write e p) = e
@@ -73,6 +74,7 @@ abbrev pub log_or_blank : Option Generation → Generation
 log_or_blank (Some log) = log
 log_or_blank None = record { restoring = false; sequence = 0; current = 0; entries = [] }
 
+-- the log in memory
 abbrev pub log_of_memory : Memory → Generation
 log_of_memory m = log_or_blank m.log
 
@@ -107,6 +109,7 @@ cleaned m = record m { kinds = map unsaved m.kinds; clean = true; hand = Empty }
 abbrev pub given_up : Memory → Job → Memory
 given_up m job = record m { kinds = with_kind m.kinds (picks job) kinds.Free; hand = Empty }
 
+-- the act writes the log
 abbrev pub is_log_write : Act → Bool
 is_log_write acts.WriteLog = true
 is_log_write (acts.Read block slot) = false
@@ -118,6 +121,7 @@ is_log_write acts.End = false
 abbrev pub at_act : Memory → Batch → Memory
 at_act m b = if is_log_write (next_act b.progress) then changed m b else m
 
+-- the call of an act of a batch
 abbrev pub call_of_act : Geometry → Memory → Batch → Act → Call
 call_of_act g m b (acts.Read block slot) = ReadCall block
 call_of_act g m b (acts.Write block slot) = WriteCall block (slice_index_or b.slots slot [])
@@ -131,6 +135,7 @@ with_reply slots (Gave v) = slots ++ v ∷ []
 with_reply slots Succeeded = slots
 with_reply slots Failed = slots
 
+-- the batch after an act that was done
 abbrev pub went_on : Batch → Reply → Batch
 went_on b reply = record { progress = record { job = b.progress.job; done = b.progress.done + 1; failed = false }; slots = with_reply b.slots reply; ticket = b.ticket }
 
@@ -141,11 +146,6 @@ batch_after m b reply afters.LogGiven = record (changed m b) { hand = Batching (
 batch_after m b reply afters.Clean = cleaned m
 batch_after m b reply (afters.Failed given) = if given then record (at_act m b) { hand = Empty } else given_up m b.progress.job
 
-abbrev pub is_success : Reply → Bool
-is_success Failed = false
-is_success Succeeded = true
-is_success (Gave v) = true
-
 -- ----------------------------------------------------------------------------------------------------------------
 -- The command in hand.
 
@@ -153,6 +153,7 @@ is_success (Gave v) = true
 abbrev pub first_log : ℕ → ℕ → List ℕ → Generation
 first_log c b content = record { restoring = false; sequence = 0; current = c; entries = copy_entry 0 b 1 (content ∷ []) ∷ [] }
 
+-- the call of an act of a prepare
 abbrev pub call_of_prepare : Geometry → Memory → ℕ → ℕ → PrepareAct → Call
 call_of_prepare g m c b ReadsBlock0 = ReadCall 0
 call_of_prepare g m c b (WritesCurrent content) = WriteCall c content
@@ -161,6 +162,7 @@ call_of_prepare g m c b (FlushesCopies content) = FlushCall
 call_of_prepare g m c b WritesFirstLog = WriteCall 0 (spelling g (log_of_memory m))
 call_of_prepare g m c b FlushesFirstLog = FlushCall
 
+-- the extent of one block
 abbrev pub one_block : ℕ → Extent
 one_block b = record { first = b; count = 1 }
 
@@ -185,6 +187,7 @@ prepare_after m t c b (FlushesCopies content) reply = armed m t c b content
 prepare_after m t c b WritesFirstLog reply = record m { hand = Preparing t c b FlushesFirstLog }
 prepare_after m t c b FlushesFirstLog reply = record m { phase = Checkpoint; hand = Empty; clean = true }
 
+-- the call of an act of a commit
 abbrev pub call_of_commit : Memory → CommitAct → Call
 call_of_commit m FlushesAll = FlushCall
 call_of_commit m ReadsCurrent = ReadCall (place_of m 0)
@@ -223,6 +226,7 @@ pub record Step : Type 0 where
 abbrev pub moved : Memory → List Event → Step
 moved m happens = record { memory = m; told = Moved; events = happens }
 
+-- the request of this ticket waits no more
 abbrev pub without_waiting : Memory → Ticket → Memory
 without_waiting m t = record m { requests = without_request t m.requests }
 
@@ -235,6 +239,7 @@ abbrev pub answered_for : Memory → Option Request → (Request → Outcome) �
 answered_for m (Some r) outcome happens = answered m r (outcome r) (happens r)
 answered_for m None outcome happens = moved m []
 
+-- one block more of the request is done
 abbrev pub one_more : Memory → Request → Memory
 one_more m r = record m { requests = with_request (record r { done = r.done + 1 }) m.requests }
 
@@ -252,6 +257,7 @@ abbrev pub got : Geometry → Memory → Request → ℕ → Reply → Step
 got g m r b (Gave v) = record { memory = one_more m (record r { op = with_read g.block_size r.op r.done v }); told = Got r.ticket r.done; events = Reads b v ∷ [] }
 got g m r b reply = answered m r (outcomes.DiskFault r.done) []
 
+-- a flush of the disk was made for a request
 abbrev pub flushed : Memory → Request → Reply → Step
 flushed m r Failed = answered m r (outcomes.DiskFault 0) []
 flushed m r reply = answered m r outcomes.Done (Flushes ∷ [])
@@ -266,9 +272,11 @@ kinds_discarded g m e Trim = with_kind m.kinds (above_0 e) kinds.Free
 kinds_discarded g m e Checkpoint = reclaimed m.kinds e (open_writes g.blocks (waiting_of m.requests))
 kinds_discarded g m e phase = m.kinds
 
+-- a discard is answered
 abbrev pub discarded : Geometry → Memory → Request → Step
 discarded g m r = answered (record m { kinds = kinds_discarded g m (extent_of r.op) m.phase }) r outcomes.Done (Discards (extent_of r.op) ∷ [])
 
+-- a write that the disk failed is answered with the number of its blocks that were done
 abbrev pub fault_after : Request → Outcome
 fault_after r = outcomes.DiskFault r.done
 
@@ -283,6 +291,7 @@ prepare_events now (FlushesCopies content) = Arms now ∷ []
 prepare_events now FlushesFirstLog = Prepares ∷ []
 prepare_events now act = []
 
+-- an act of a prepare: where it failed, the prepare is answered with a fault; its last act answers it
 abbrev pub prepare_step : Contents → Memory → Ticket → ℕ → ℕ → PrepareAct → Reply → Step
 prepare_step now m t c b act Failed = answered_for (record m { hand = Empty }) (request_of t m.requests) (λ r. outcomes.DiskFault 0) (λ r. [])
 prepare_step now m t c b FlushesFirstLog reply = answered_for (prepare_after m t c b FlushesFirstLog reply) (request_of t m.requests) (λ r. outcomes.Done) (λ r. prepare_events now FlushesFirstLog)
@@ -293,21 +302,25 @@ abbrev pub deciding_events : Bool → CommitAct → List Event
 deciding_events false (WritesBlock0 content) = Decides ∷ []
 deciding_events again act = []
 
+-- the end of a commit: one that found the phase deciding flushes once more
 abbrev pub committing_events : Bool → List Event
 committing_events false = Commits ∷ []
 committing_events true = Flushes ∷ Commits ∷ []
 
+-- an act of a commit: where it failed, the commit is answered with a fault; its last act answers it
 abbrev pub commit_step : Memory → Ticket → Bool → CommitAct → Reply → Step
 commit_step m t again act Failed = answered_for (commit_failed m act) (request_of t m.requests) (λ r. outcomes.DiskFault 0) (λ r. deciding_events again act)
 commit_step m t again FlushesDecision reply = answered_for (commit_after m t again FlushesDecision reply) (request_of t m.requests) (λ r. outcomes.Done) (λ r. committing_events again)
 commit_step m t again act reply = moved (commit_after m t again act reply) (deciding_events again act)
 
+-- the next act of what is in hand
 abbrev pub act_step : Geometry → Contents → Memory → Hand → Reply → Step
 act_step g now m Empty reply = moved m []
 act_step g now m (Batching b) reply = batch_step g m b reply
 act_step g now m (Preparing t c b act) reply = prepare_step now m t c b act reply
 act_step g now m (Committing t again act) reply = commit_step m t again act reply
 
+-- the call of the next act of what is in hand
 abbrev pub call_in_hand : Geometry → Memory → Hand → Option Call
 call_in_hand g m Empty = None
 call_in_hand g m (Batching b) = Some (call_of_act g m b (next_act b.progress))

@@ -59,6 +59,7 @@ task_for g m r Flush = unless_command m (unless_refused r (refusal g m.phase Flu
 task_for g m r Prepare = Waits
 task_for g m r Commit = Waits
 
+-- the task of the request of a ticket, if it waits
 abbrev pub map_task : Geometry → Memory → Option Request → Task
 map_task g m None = Waits
 map_task g m (Some r) = task_for g m r r.op
@@ -84,6 +85,7 @@ spelling g log = spell (fields_of g log)
 abbrev pub batch_for : Request → Job → List (List ℕ) → Batch
 batch_for r job slots = record { progress = record { job = job; done = 0; failed = false }; slots = slots; ticket = r.ticket }
 
+-- the memory with this batch in hand
 abbrev pub with_batch : Memory → Batch → Memory
 with_batch m b = record m { hand = Batching b }
 
@@ -107,6 +109,7 @@ alike_from table kind first (suc most) = if is_source kind (kind_at table first)
 abbrev pub copied_from : Memory → Request → Extent → Extent
 copied_from m r e = record { first = e.first + r.done; count = alike_from m.kinds (kind_at m.kinds (e.first + r.done)) (e.first + r.done) (min 8 (e.count - r.done)) }
 
+-- a copy of as many blocks as were picked
 abbrev pub copy_onto : Extent → Extent → Job
 copy_onto source dest = jobs.Copy source.first dest.first dest.count
 
@@ -119,10 +122,12 @@ formed g m r e log =
     else if length log.entries == room g.block_size then on_picked m r (λ dest. batch_for r (jobs.Link dest.first) (spelling g log ∷ [])) (picked m.kinds 1)
     else on_picked m r (λ dest. batch_for r (copy_onto (copied_from m r e) dest) []) (picked m.kinds (copied_from m r e).count)
 
+-- the batch for a head, which is a write, in Checkpoint, where there is a log
 abbrev pub formed_for : Geometry → Memory → Request → Op → Option Generation → Task
 formed_for g m r (Write e p) (Some log) = formed g m r e log
 formed_for g m r op log = Waits
 
+-- the worker serves the head, if there is one
 abbrev pub serve : Geometry → Memory → Option Request → Task
 serve g m None = Waits
 serve g m (Some r) = formed_for g m r r.op m.log
@@ -138,6 +143,7 @@ abbrev pub prepare_on : Memory → Request → Option Extent → Option Extent �
 prepare_on m r (Some c) (Some b) = Acts (record m { hand = Preparing r.ticket c.first b.first ReadsBlock0 })
 prepare_on m r c b = Answers r (outcomes.NoSpace 0)
 
+-- the table as if the picked block were no longer free
 abbrev pub without_picked : List Kind → Option Extent → List Kind
 without_picked table None = table
 without_picked table (Some c) = with_kind table c kinds.Backup
@@ -155,6 +161,7 @@ taken m r op phase = Answers r (outcomes.WrongPhase phase)
 abbrev pub first_of : List Request → Option Request
 first_of requests = find (λ r. is_command r.op) requests
 
+-- the first command that waits is taken, if there is one
 abbrev pub take_first : Memory → Option Request → Task
 take_first m None = Waits
 take_first m (Some r) = taken m r r.op m.phase
@@ -166,6 +173,7 @@ command_task m (Batching b) = Waits
 command_task m (Preparing t c b act) = Acts m
 command_task m (Committing t again act) = Acts m
 
+-- what a turn does
 abbrev pub task_of : Geometry → Memory → Turn → Task
 task_of g m (Map ticket) = map_task g m (request_of ticket m.requests)
 task_of g m Worker = worker_task g m m.hand m.phase
