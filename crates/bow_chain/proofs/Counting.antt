@@ -1,5 +1,5 @@
 -- What holds of each place that counts.
-use Rattle.std.proofs.Common.{ℕ, ◌<◌, ◌≡◌, List, [], ◌∷◌, ◌++◌, length, Some, arith, refl, sym, ap, ap₂, ◌∙◌, subst}
+use Rattle.std.proofs.Common.{ℕ, ◌<◌, ◌≡◌, Bool, List, [], ◌∷◌, ◌++◌, length, Some, arith, refl, sym, ap, ap₂, ◌∙◌, subst}
 use mathlib.Core.Path.{fun_ext}
 use Rattle.std.specs.List.{AllByRecursion as Each}
 use Rattle.bow_units.specs.declared.sizes.Geometry.{Geometry}
@@ -9,7 +9,7 @@ use Rattle.bow_log.proofs.InBlocks.{block_gives}
 use Rattle.bow_chain.specs.Contents.{Contents, run_of}
 use Rattle.bow_chain.specs.Places.{pass, base}
 use Rattle.bow_chain.specs.Sound.{log_in, sum_at, SumsHold, IsChain, StandsBehind, IsSound}
-use Rattle.bow_chain.specs.Counting.{AtSums, AtLogs}
+use Rattle.bow_chain.specs.Counting.{AtSums, AtLogs, AtPlaces}
 use Rattle.bow_chain.proofs.Hops.{pass-append, pass_pos, pass_inside, log_inside, dest_pos, dest_inside}
 
 pub entries_map : (P Q : ℕ → Type 0) (r s : ℕ → ℕ) → ((x : ℕ) → P (r x) → Q (s x)) → (es : List Backup) → AtSums P r es → AtSums Q s es
@@ -23,6 +23,14 @@ places_map P Q r s k f (log ∷ older) all = (
   entries_map P Q (λ x. r (k x)) (λ x. s (k x)) (λ x. f (k x)) log.entries all.1,
   places_map P Q r s (λ x. k (pass log.entries x)) f older all.2,
 )
+
+-- what holds at each place that counts may be less
+pub at_places_map : (g : Geometry) (used : ℕ → Bool) (P Q : ℕ → Type 0) (log : Generation) (older : List Generation) → ((x : ℕ) → P x → Q x) → AtPlaces g used P log older → AtPlaces g used Q log older
+at_places_map g used P Q log older f all = record {
+  sums = entries_map P Q (λ x. x) (λ x. x) f log.entries all.sums;
+  logs = places_map P Q (λ x. x) (λ x. x) (pass log.entries) f older all.logs;
+  bases = λ x on u. f _ (all.bases x on u);
+}
 
 -- the places of more backups at the end
 pub entries_append : (P : ℕ → Type 0) (r : ℕ → ℕ) (es fs : List Backup) → AtSums P (λ x. r (pass fs x)) es → AtSums P r fs → AtSums P r (es ++ fs)

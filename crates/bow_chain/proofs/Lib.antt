@@ -9,6 +9,8 @@ pub mod OwnBlocks
 pub mod Sectors
 pub mod Quiet
 pub mod SumRuns
+pub mod Tables
 pub mod LastSum
 pub mod FieldsAt
 pub mod Loads
+pub mod Bases

@@ -24,7 +24,8 @@ TellsBehind g image above left fault = IsFaultBehind g image above left fault �
 
 -- it tells the last of these backups, those of the log at this depth, whose sum does not hold
 abbrev pub TellsSum : Contents → (ℕ → ℕ) → List Backup → ℕ → ChainFault → Type 0
-TellsSum image route backups depth (BadSum at index found stated) = (at ≡ depth) × IsLastBadSum image route backups index found stated
+TellsSum image route backups depth (BadSum at index found stated) = (at ≡ depth)
+    × IsLastBadSum image route backups index found stated
 TellsSum image route backups depth fault = IsOutside fault
 
 -- there is no log exactly where the block begins with neither magic

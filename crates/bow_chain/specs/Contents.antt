@@ -1,5 +1,6 @@
 -- What each block holds, as a function of its number.
-use Rattle.std.specs.Prelude.{ℕ, zero, suc, ◌==◌, if◌then◌else◌, List, [], ◌∷◌, slice_index_or}
+use Rattle.std.specs.Prelude.{ℕ, zero, suc, ◌≡◌, ◌==◌, if◌then◌else◌, List, [], ◌∷◌, Option, Some, slice_index_or}
+use Rattle.bow_disk.specs.Disk.{Content}
 
 -- what each block holds; beyond the device, nothing
 abbrev pub Contents : Type 0
@@ -8,6 +9,10 @@ Contents = ℕ → List ℕ
 -- the blocks of an image
 abbrev pub contents_of : List (List ℕ) → Contents
 contents_of image b = slice_index_or image b []
+
+-- this holds of the image that a disk tells, if it tells any
+abbrev pub OfImage : Option Content → (Contents → Type 0) → Type 0
+OfImage told P = (c : Content) → told ≡ Some c → P (contents_of c.now)
 
 -- the same, with this content in this block
 unfoldable pub with_block : Contents → ℕ → List ℕ → Contents

@@ -1,5 +1,5 @@
--- The first fault of an image. Parts are tested from depth 0 on, the depth of the log in block 0; at one depth the fields
--- of the log, then its sequence, then its sums from the last entry to the first.
+-- The first fault of an image. Parts are tested from depth 0 on, the depth of the log in block 0; at one depth the
+-- fields of the log, then its sequence, then its sums from the last entry to the first.
 use Rattle.std.specs.Prelude.{ℕ, suc, ◌+◌, ◌<◌, ◌≡◌, ◌≢◌, ◌&&◌, false, nat_lt, if◌then◌else◌, List, [], ◌∷◌, ◌++◌, length, Option, Some}
 use Rattle.bow_units.specs.declared.sizes.Geometry.{Geometry}
 use Rattle.bow_log.specs.declared.logs.Magic.TheVariants.{Restoring}
@@ -17,12 +17,14 @@ use Rattle.bow_chain.specs.declared.faults.ChainFault.TheVariants.{NoLog, BadLog
 abbrev pub SpellsAt : Geometry → ℕ → List ℕ → Generation → Type 0
 SpellsAt g depth block log = (log_in g block ≡ Some log) × (0 < depth → log.restoring ≡ false)
 
--- These logs, the newest first, pass every test where `route` leads, the first of them at this depth: each is spelled where
--- its successor has put block 0, has a sequence that leaves the others and so many more behind it, and its sums hold.
+-- These logs, the newest first, pass every test where `route` leads, the first of them at this depth: each is spelled
+-- where its successor has put block 0, has a sequence that leaves the others and so many more behind it, and its sums
+-- hold.
 abbrev pub PassTests : Geometry → Contents → ℕ → (ℕ → ℕ) → List Generation → ℕ → Type 0
 PassTests g image depth route [] left = Unit {0}
 PassTests g image depth route (log ∷ older) left =
-    SpellsAt g depth (image (route 0)) log × (log.sequence ≡ length older + left) × SumsHold image route log.entries × PassTests g image (suc depth) (λ x. route (pass log.entries x)) older left
+    SpellsAt g depth (image (route 0)) log × (log.sequence ≡ length older + left) × SumsHold image route log.entries
+    × PassTests g image (suc depth) (λ x. route (pass log.entries x)) older left
 
 -- the logs from block 0 down to some depth, the newest first, pass every test, and so many more are to come
 abbrev pub AreAbove : Geometry → Contents → List Generation → ℕ → Type 0
@@ -33,7 +35,8 @@ unfoldable pub fields_fault : Geometry → ℕ → List ℕ → Option LogFault
 fields_fault g depth block = if nat_lt 0 depth && begins_with Restoring block then Some NoMagic else fault_of g block
 
 -- the block behind these logs spells this log, as one at this depth
-pub record IsBehind (g : Geometry) (image : Contents) (above : List Generation) (depth : ℕ) (log : Generation) : Type 0 where
+pub record IsBehind (g : Geometry) (image : Contents) (above : List Generation) (depth : ℕ)
+    (log : Generation) : Type 0 where
   pub at_depth : depth ≡ length above
   pub spelled : SpellsAt g depth (image (base above 0)) log
 
@@ -43,13 +46,15 @@ pub record IsNoLog (g : Geometry) (image : Contents) (above : List Generation) :
   pub first : fault_of g (image 0) ≡ Some NoMagic
 
 -- the block behind these logs has this fault in the fields of a log; in block 0 the want of a magic is none of these
-pub record IsBadLog (g : Geometry) (image : Contents) (above : List Generation) (depth : ℕ) (fault : LogFault) : Type 0 where
+pub record IsBadLog (g : Geometry) (image : Contents) (above : List Generation) (depth : ℕ)
+    (fault : LogFault) : Type 0 where
   pub at_depth : depth ≡ length above
   pub first : fields_fault g depth (image (base above 0)) ≡ Some fault
   pub begins : depth ≡ 0 → fault ≢ NoMagic
 
 -- the log behind these has this sequence, and the one above it wants another
-pub record IsBadSequence (g : Geometry) (image : Contents) (above : List Generation) (left depth found wanted : ℕ) : Type 0 where
+pub record IsBadSequence (g : Geometry) (image : Contents) (above : List Generation)
+    (left depth found wanted : ℕ) : Type 0 where
   pub log : Generation
   pub behind : IsBehind g image above depth log
   pub deeper : 0 < depth
@@ -58,7 +63,8 @@ pub record IsBadSequence (g : Geometry) (image : Contents) (above : List Generat
   pub wrong : found ≢ wanted
 
 -- of these backups the one of this index states another sum than is found, and the sums of the later ones hold
-pub record IsLastBadSum (image : Contents) (route : ℕ → ℕ) (backups : List Backup) (index found stated : ℕ) : Type 0 where
+pub record IsLastBadSum (image : Contents) (route : ℕ → ℕ) (backups : List Backup)
+    (index found stated : ℕ) : Type 0 where
   pub before : List Backup
   pub backup : Backup
   pub later : List Backup
@@ -70,7 +76,8 @@ pub record IsLastBadSum (image : Contents) (route : ℕ → ℕ) (backups : List
   pub wrong : found ≢ stated
 
 -- the entry of this index, in the log behind these, states another sum than is found
-pub record IsBadSum (g : Geometry) (image : Contents) (above : List Generation) (left depth index found stated : ℕ) : Type 0 where
+pub record IsBadSum (g : Geometry) (image : Contents) (above : List Generation)
+    (left depth index found stated : ℕ) : Type 0 where
   pub log : Generation
   pub behind : IsBehind g image above depth log
   pub sequence : log.sequence ≡ left
@@ -81,7 +88,8 @@ abbrev pub IsFaultBehind : Geometry → Contents → List Generation → ℕ →
 IsFaultBehind g image above left NoLog = IsNoLog g image above
 IsFaultBehind g image above left (BadLog depth fault) = IsBadLog g image above depth fault
 IsFaultBehind g image above left (BadSequence depth found wanted) = IsBadSequence g image above left depth found wanted
-IsFaultBehind g image above left (BadSum depth index found stated) = IsBadSum g image above left depth index found stated
+IsFaultBehind g image above left (BadSum depth index found stated) =
+    IsBadSum g image above left depth index found stated
 IsFaultBehind g image above left DiskFault = ⊥
 IsFaultBehind g image above left NoMemory = ⊥
 

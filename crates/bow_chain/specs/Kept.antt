@@ -1,15 +1,11 @@
 -- What an image keeps of the checkpoint.
 use Rattle.std.specs.Prelude.{ℕ, ◌≡◌, ◌⊎◌, ◌<◌, Bool, true, List, ◌∷◌}
 use Rattle.bow_units.specs.declared.sizes.Geometry.{Geometry}
-use Rattle.bow_units.specs.Magics.{HasMagic}
+pub use Rattle.bow_units.specs.Magics.{IsPlain}
 use Rattle.bow_log.specs.Generations.{Generation}
 use Rattle.bow_chain.specs.Contents.{Contents}
 use Rattle.bow_chain.specs.Places.{base}
 use Rattle.bow_chain.specs.Sound.{IsSound}
-
--- the content begins with neither magic
-abbrev pub IsPlain : List ℕ → Type 0
-IsPlain content = HasMagic content → ⊥
 
 -- what a chain keeps of a block
 abbrev pub kept : Contents → List Generation → Contents

@@ -1,10 +1,11 @@
 pub mod Contents
+pub mod Runs
 pub mod Places
+pub mod Tables
 pub mod Sound
 pub mod Counting
 pub mod Kept
 pub mod Faults
 pub mod Chains
-pub mod Reads
 pub mod Answers
 pub mod Laws

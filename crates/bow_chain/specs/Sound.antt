@@ -19,14 +19,16 @@ sum_at first blocks = sum_of first blocks
 -- of the same log have put it since, and then where `route` leads.
 abbrev pub SumsHold : Contents → (ℕ → ℕ) → List Backup → Type 0
 SumsHold image route [] = Unit {0}
-SumsHold image route (b ∷ bs) = (sum_at b.source (run_of (λ x. image (route (pass bs x))) b.dest b.count) ≡ b.sum) × SumsHold image route bs
+SumsHold image route (b ∷ bs) = (sum_at b.source (run_of (λ x. image (route (pass bs x))) b.dest b.count) ≡ b.sum)
+    × SumsHold image route bs
 
 -- These logs, the newest first, stand one behind the other where `route` leads: each is spelled where its successor has
 -- put block 0, is not under restoration, has as many older ones as its sequence says, and its sums hold.
 abbrev pub IsChain : Geometry → Contents → (ℕ → ℕ) → List Generation → Type 0
 IsChain g image route [] = Unit {0}
 IsChain g image route (log ∷ older) =
-    (log_in g (image (route 0)) ≡ Some log) × (log.restoring ≡ false) × (log.sequence ≡ length older) × SumsHold image route log.entries × IsChain g image (λ x. route (pass log.entries x)) older
+    (log_in g (image (route 0)) ≡ Some log) × (log.restoring ≡ false) × (log.sequence ≡ length older)
+    × SumsHold image route log.entries × IsChain g image (λ x. route (pass log.entries x)) older
 
 -- what stands behind a log, wherever the log itself is: its own sums hold, and its older logs are a chain
 pub record StandsBehind (g : Geometry) (image : Contents) (log : Generation) (older : List Generation) : Type 0 where

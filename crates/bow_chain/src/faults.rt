@@ -3,9 +3,9 @@ use bow_log::LogFault;
 use bow_units::Failed;
 use std::alloc::{AllocError, AllocFailed};
 
-/// Why no chain was loaded. Depth 0 is the log in block 0, and each older log is one deeper. Parts are tested from depth
-/// 0 on; at one depth the fields of the log, then its sequence, then its sums from the last entry to the first. The first
-/// fault in this order is told.
+/// Why no chain was loaded. Depth 0 is the log in block 0, and each older log is one deeper. Parts are tested from
+/// depth 0 on; at one depth the fields of the log, then its sequence, then its sums from the last entry to the first.
+/// The first fault in this order is told.
 #[derive(Clone, Copy, Debug, PartialEq, Eq)]
 pub enum ChainFault {
     /// Block 0 begins with neither magic: there is no log.

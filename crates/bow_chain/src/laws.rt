@@ -1,13 +1,22 @@
 // What holds of chains of logs, whatever reads and writes them.
-ghost use Rattle.bow_chain.specs.Laws.{OneChain, SoundTogether, KeepTogether, OwnBlocks, OwnBlocksAbove, FaultyIsNotSound, OneFault, SoundOrFaulty};
+ghost use Rattle.bow_chain.specs.Laws.{OneChain, SameWhereItCounts, ChainsMove, BasesAreOn, KeptAtBases, LogsFit, OwnBlocks, OwnBlocksAbove, FaultyIsNotSound, OneFault, SoundOrFaulty};
 
-/// An image is sound with one chain of logs. Of two images that agree in block 0 and at the places that count, where one
-/// is sound so is the other, with the same logs; where they agree at the bases of the used blocks too, they keep the same
-/// of these.
+/// An image is sound with one chain of logs. Of two images that agree in block 0 and at the places that count, where
+/// one is sound so is the other, with the same logs, and both keep the same of the used blocks. And where two images
+/// agree along two routes, logs that are a chain along the one are a chain along the other.
 pub fn chain_law()
     ensures one { OneChain }
-    ensures sound { SoundTogether }
-    ensures kept { KeepTogether }
+    ensures same { SameWhereItCounts }
+    ensures moved { ChainsMove }
+{}
+
+/// What a reader of a sound image relies on: each block's base is on the device and not block 0; what the image keeps
+/// of a block is what it holds at that base; and the logs of an image of bytes have numbers that fit their places, so
+/// that each is spelled again as it was read.
+pub fn base_law()
+    ensures on { BasesAreOn }
+    ensures kept { KeptAtBases }
+    ensures fit { LogsFit }
 {}
 
 /// The logs of a sound image lie in blocks of their own, and so do the logs above a fault: there are at most as many as

@@ -13,5 +13,5 @@ mod tests;
 
 pub use chains::Chain;
 pub use faults::ChainFault;
-pub use laws::{chain_law, fault_law, own_blocks_law};
+pub use laws::{base_law, chain_law, fault_law, own_blocks_law};
 pub use loading::load;

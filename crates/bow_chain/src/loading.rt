@@ -1,5 +1,5 @@
 // Loads the chain of logs of an image.
-ghost use Rattle.std.specs.Prelude.{◌≡◌, ◌⊎◌, ◌+◌, ◌<◌, ◌≤◌, ◌^◌, ◌↔◌, ◌++◌, ◌∷◌, ◌&&◌, nat_lt, [], ℕ, List, length, Some, IfOk, IfErr, OnOk, MatchResult};
+ghost use Rattle.std.specs.Prelude.{◌≡◌, ◌⊎◌, ◌+◌, ◌<◌, ◌≤◌, ◌^◌, ◌↔◌, ◌++◌, ◌∷◌, ◌&&◌, ◌*◌, nat_lt, [], ℕ, List, length, Some, IfOk, IfErr, OnOk, MatchResult};
 ghost use Rattle.bow_units.specs.Sizes.{IsValid};
 ghost use Rattle.bow_units.specs.Causes.{Rose};
 ghost use Rattle.bow_units.specs.Magics.{HasMagic};
@@ -8,11 +8,12 @@ ghost use Rattle.bow_log.specs.Rules.{IsLog};
 ghost use Rattle.bow_log.specs.Faults.{begins_with};
 ghost use Rattle.bow_log.specs.declared.logs.Magic.TheVariants.{Restoring};
 ghost use Rattle.bow_disk.specs.Disk.{Content, Goes, Same};
-ghost use Rattle.bow_chain.specs.Contents.{contents_of};
+ghost use Rattle.bow_chain.specs.Contents.{OfImage, contents_of};
 ghost use Rattle.bow_chain.specs.Sound.{IsSound};
 ghost use Rattle.bow_chain.specs.Places.{base};
-ghost use Rattle.bow_chain.specs.Chains.{AreLogs, IsSoundWith, generations_of};
-ghost use Rattle.bow_chain.specs.Reads.{AddsNoCut};
+ghost use Rattle.bow_chain.specs.Tables.{IsTable, Follows};
+ghost use Rattle.bow_chain.specs.Chains.{AreLogs, AreNumbered, AreWhole, IsSoundWith, generations_of};
+ghost use Rattle.bow_disk.specs.Moments.{AddsNoCut};
 ghost use Rattle.bow_chain.specs.Faults.{AreAbove, IsBehind, IsFaultBehind, IsFirstFault, fields_fault};
 ghost use Rattle.bow_chain.specs.Answers.{IsOutside, TellsBehind, TellsFirst, TellsMagic};
 ghost use Rattle.bow_units.specs.declared.sizes.Geometry.{Geometry};
@@ -22,25 +23,13 @@ ghost use Rattle.bow_chain.specs.declared.faults.ChainFault.TheVariants.{DiskFau
 
 use crate::chains::Chain;
 use crate::faults::ChainFault;
-use crate::places::base;
+use crate::places::own_places;
 use crate::sums::test_sums;
 use arrayvec::ArrayVec;
 use bow_disk::Disk;
-use bow_log::{Log, LogFault, Magic, read_log};
+use bow_log::{Log, LogFault, Magic, begins_restoring, read_log};
 use bow_units::Geometry;
 use std::alloc::Global;
-
-const RESTORING_MAGIC: u32 = 0x0042_4F57;
-
-// Whether the block begins with the magic of a log under restoration.
-#[tactic(auto, unfolding(bow_log::specs::Faults::number_at))]
-fn begins_restoring(block: &[u8]) -> bool
-    requires { 4 ≤ length block.now }
-    ensures { result ≡ begins_with Restoring block.now }
-{
-    let (front, _) = block.split_at(4);
-    u32::from_le_bytes([front[0], front[1], front[2], front[3]]) == RESTORING_MAGIC
-}
 
 // Whether the block may be no log at this depth, whatever its fields say: it is under restoration, and not block 0.
 fn is_refused(block: &[u8], depth: u32) -> bool
@@ -52,7 +41,9 @@ fn is_refused(block: &[u8], depth: u32) -> bool
 
 // What is told of a log at this depth that has this fault in its fields.
 fn fault_at(depth: u32, fault: LogFault) -> ChainFault
-    ensures fault { (g : Geometry) (image : ℕ → List ℕ) (above : List Generation) (left : ℕ) → depth ≡ length above → fields_fault g depth (image (base above 0)) ≡ Some fault → IsFaultBehind g image above left result }
+    ensures fault { (g : Geometry) (image : ℕ → List ℕ) (above : List Generation) (left : ℕ)
+        → depth ≡ length above → fields_fault g depth (image (base above 0)) ≡ Some fault
+        → IsFaultBehind g image above left result }
     ensures own { ¬ IsOutside result }
     ensures magic { (block : List ℕ) → depth ≡ 0 → ((fault ≡ NoMagic) ↔ ¬ HasMagic block) → TellsMagic block result }
 {
@@ -68,8 +59,10 @@ fn log_at(block: &[u8], geometry: Geometry, depth: u32) -> Result<Log, ChainFaul
     requires valid { IsValid geometry }
     requires one { length block.now ≡ geometry.block_size }
     ensures log { IfOk result (λ log. IsLog geometry log) }
-    ensures fields { (image : ℕ → List ℕ) (above : List Generation) (left : ℕ) → depth ≡ length above → image (base above 0) ≡ block.now →
-        MatchResult result (λ log. IsBehind geometry image above depth (generation_of geometry log)) (IsFaultBehind geometry image above left) }
+    ensures fields { (image : ℕ → List ℕ) (above : List Generation) (left : ℕ)
+        → depth ≡ length above → image (base above 0) ≡ block.now
+        → MatchResult result (λ log. IsBehind geometry image above depth (generation_of geometry log))
+        (IsFaultBehind geometry image above left) }
     ensures own { IfErr result (λ fault. ¬ IsOutside fault) }
     ensures magic { depth ≡ 0 → MatchResult result (λ _. HasMagic block.now) (TellsMagic block.now) }
 {
@@ -89,48 +82,67 @@ fn log_at(block: &[u8], geometry: Geometry, depth: u32) -> Result<Log, ChainFaul
     }
 }
 
-// Reads the log that lies behind these.
+// Reads the log that lies behind these, at the place that the table has for block 0.
 fn log_behind<D: Disk>(
     disk: &mut D,
     geometry: Geometry,
     above: &[Log],
-    block: &mut [u8],
+    places: &[u32],
+    blocks: &mut [u8],
 ) -> Result<Log, ChainFault>
     requires sizes { D.stated disk.old ≡ Some geometry }
     requires logs { AreLogs geometry above.now }
+    requires table { IsTable geometry places.now }
+    requires follows { Follows geometry (base (generations_of geometry above.now)) places.now }
     requires deep { length above.now < 2 ^ 32 }
-    requires one { length block.old ≡ geometry.block_size }
+    requires eight { length blocks.old ≡ 8 * geometry.block_size }
     ensures log { IfOk result (λ log. IsLog geometry log) }
     ensures fields { (c : Content) (left : ℕ) → D.content disk.old ≡ Some c →
+        let image = contents_of c.now in
         let gens = generations_of geometry above.now in
-        MatchResult result (λ log. IsBehind geometry (contents_of c.now) gens (length above.now) (generation_of geometry log)) (TellsBehind geometry (contents_of c.now) gens left) }
-    ensures magic { (c : Content) → D.content disk.old ≡ Some c → length above.now ≡ 0 → MatchResult result (λ _. HasMagic (contents_of c.now 0)) (TellsMagic (contents_of c.now 0)) }
+        MatchResult result (λ log. IsBehind geometry image gens (length above.now) (generation_of geometry log))
+        (TellsBehind geometry image gens left) }
+    ensures magic { OfImage (D.content disk.old) (λ image. length above.now ≡ 0
+        → MatchResult result (λ _. HasMagic (image 0)) (TellsMagic (image 0))) }
     ensures sizes { D.stated disk.new ≡ Some geometry }
     ensures step { Goes Same (D.content disk.old) (D.content disk.new) }
-    ensures time { AddsNoCut (D.content disk.old) (D.moment disk.old) (D.moment disk.new) (D.left_since disk.old) (D.left_since disk.new) }
+    ensures time { AddsNoCut D.content D.moment D.left_since disk.old disk.new }
     ensures faults { D.faults disk.old ≤ D.faults disk.new }
     ensures cause { IfErr result (λ fault. fault ≡ DiskFault → Rose (D.faults disk.old) (D.faults disk.new)) }
 {
-    disk.read(base(above, geometry, 0), block)?;
+    let (block, _) = blocks.split_at_mut(geometry.block_size as usize);
+    disk.read(places[0] as u64, block)?;
     log_at(block, geometry, above.len() as u32)
 }
 
 // The log in block 0, once it has passed its tests.
-fn first_log<D: Disk>(disk: &mut D, geometry: Geometry, block: &mut [u8]) -> Result<Log, ChainFault>
+fn first_log<D: Disk>(
+    disk: &mut D,
+    geometry: Geometry,
+    places: &mut [u32],
+    blocks: &mut [u8],
+) -> Result<Log, ChainFault>
     requires valid { IsValid geometry }
     requires sizes { D.stated disk.old ≡ Some geometry }
-    requires one { length block.old ≡ geometry.block_size }
+    requires table { IsTable geometry places.old }
+    requires follows { Follows geometry (λ x. x) places.old }
+    requires eight { length blocks.old ≡ 8 * geometry.block_size }
     ensures log { IfOk result (λ log. IsLog geometry log) }
-    ensures tests { (c : Content) → D.content disk.old ≡ Some c → MatchResult result (λ log. AreAbove geometry (contents_of c.now) (generation_of geometry log ∷ []) log.sequence) (TellsFirst geometry (contents_of c.now)) }
-    ensures magic { (c : Content) → D.content disk.old ≡ Some c → MatchResult result (λ _. HasMagic (contents_of c.now 0)) (TellsMagic (contents_of c.now 0)) }
+    ensures table { OnOk result (IsTable geometry places.new) }
+    ensures follows { IfOk result (λ log. Follows geometry (base (generation_of geometry log ∷ [])) places.new) }
+    ensures tests { OfImage (D.content disk.old)
+        (λ image. MatchResult result (λ log. AreAbove geometry image (generation_of geometry log ∷ []) log.sequence)
+        (TellsFirst geometry image)) }
+    ensures magic { OfImage (D.content disk.old)
+        (λ image. MatchResult result (λ _. HasMagic (image 0)) (TellsMagic (image 0))) }
     ensures sizes { D.stated disk.new ≡ Some geometry }
     ensures step { Goes Same (D.content disk.old) (D.content disk.new) }
-    ensures time { AddsNoCut (D.content disk.old) (D.moment disk.old) (D.moment disk.new) (D.left_since disk.old) (D.left_since disk.new) }
+    ensures time { AddsNoCut D.content D.moment D.left_since disk.old disk.new }
     ensures faults { D.faults disk.old ≤ D.faults disk.new }
     ensures cause { IfErr result (λ fault. fault ≡ DiskFault → Rose (D.faults disk.old) (D.faults disk.new)) }
 {
-    let log = log_behind(disk, geometry, &[], block)?;
-    test_sums(disk, geometry, &[], &log, block)?;
+    let log = log_behind(disk, geometry, &[], places, blocks)?;
+    test_sums(disk, geometry, &[], &log, places, blocks)?;
     Ok(log)
 }
 
@@ -140,24 +152,33 @@ fn older_log<D: Disk>(
     geometry: Geometry,
     above: &[Log],
     wanted: u32,
-    block: &mut [u8],
+    places: &mut [u32],
+    blocks: &mut [u8],
 ) -> Result<Log, ChainFault>
     requires sizes { D.stated disk.old ≡ Some geometry }
     requires logs { AreLogs geometry above.now }
+    requires table { IsTable geometry places.old }
+    requires follows { Follows geometry (base (generations_of geometry above.now)) places.old }
     requires some { 0 < length above.now }
     requires deep { length above.now < 2 ^ 32 }
-    requires one { length block.old ≡ geometry.block_size }
+    requires eight { length blocks.old ≡ 8 * geometry.block_size }
     ensures log { IfOk result (λ log. IsLog geometry log) }
-    ensures tests { (c : Content) → D.content disk.old ≡ Some c →
+    ensures sequence { IfOk result (λ log. log.sequence ≡ wanted) }
+    ensures table { OnOk result (IsTable geometry places.new) }
+    ensures follows { let gens = generations_of geometry above.now in
+        IfOk result (λ log. Follows geometry (base (gens ++ generation_of geometry log ∷ [])) places.new) }
+    ensures tests { OfImage (D.content disk.old) (λ image.
         let gens = generations_of geometry above.now in
-        AreAbove geometry (contents_of c.now) gens (wanted + 1) → MatchResult result (λ log. AreAbove geometry (contents_of c.now) (gens ++ generation_of geometry log ∷ []) wanted) (TellsFirst geometry (contents_of c.now)) }
+        AreAbove geometry image gens (wanted + 1)
+        → MatchResult result (λ log. AreAbove geometry image (gens ++ generation_of geometry log ∷ []) wanted)
+        (TellsFirst geometry image)) }
     ensures sizes { D.stated disk.new ≡ Some geometry }
     ensures step { Goes Same (D.content disk.old) (D.content disk.new) }
-    ensures time { AddsNoCut (D.content disk.old) (D.moment disk.old) (D.moment disk.new) (D.left_since disk.old) (D.left_since disk.new) }
+    ensures time { AddsNoCut D.content D.moment D.left_since disk.old disk.new }
     ensures faults { D.faults disk.old ≤ D.faults disk.new }
     ensures cause { IfErr result (λ fault. fault ≡ DiskFault → Rose (D.faults disk.old) (D.faults disk.new)) }
 {
-    let log = log_behind(disk, geometry, above, block)?;
+    let log = log_behind(disk, geometry, above, places, blocks)?;
     let found = log.sequence;
     if found != wanted {
         let depth = above.len() as u32;
@@ -167,7 +188,7 @@ fn older_log<D: Disk>(
             wanted,
         });
     }
-    test_sums(disk, geometry, above, &log, block)?;
+    test_sums(disk, geometry, above, &log, places, blocks)?;
     Ok(log)
 }
 
@@ -177,62 +198,82 @@ fn add_older<D: Disk>(
     geometry: Geometry,
     logs: &mut Vec<Log>,
     left: u32,
-    block: &mut [u8],
+    places: &mut [u32],
+    blocks: &mut [u8],
 ) -> Result<(), ChainFault>
     requires sizes { D.stated disk.old ≡ Some geometry }
     requires logs { AreLogs geometry logs.old.items }
     requires one_log { length logs.old.items ≡ 1 }
-    requires one { length block.old ≡ geometry.block_size }
+    requires table { IsTable geometry places.old }
+    requires follows { Follows geometry (base (generations_of geometry logs.old.items)) places.old }
+    requires eight { length blocks.old ≡ 8 * geometry.block_size }
+    requires numbered { AreNumbered logs.old.items left }
     ensures logs { OnOk result (AreLogs geometry logs.new.items) }
-    ensures tests { (c : Content) → D.content disk.old ≡ Some c → AreAbove geometry (contents_of c.now) (generations_of geometry logs.old.items) left →
-        MatchResult result (λ _. AreAbove geometry (contents_of c.now) (generations_of geometry logs.new.items) 0) (TellsFirst geometry (contents_of c.now)) }
+    ensures table { OnOk result (IsTable geometry places.new) }
+    ensures follows { OnOk result (Follows geometry (base (generations_of geometry logs.new.items)) places.new) }
+    ensures numbered { OnOk result (AreNumbered logs.new.items 0) }
+    ensures deep { OnOk result (length logs.new.items ≤ 2 ^ 32) }
+    ensures tests { OfImage (D.content disk.old) (λ image.
+        AreAbove geometry image (generations_of geometry logs.old.items) left
+        → MatchResult result (λ _. AreAbove geometry image (generations_of geometry logs.new.items) 0)
+        (TellsFirst geometry image)) }
     ensures some { OnOk result (0 < length logs.new.items) }
     ensures sizes { D.stated disk.new ≡ Some geometry }
     ensures step { Goes Same (D.content disk.old) (D.content disk.new) }
-    ensures time { AddsNoCut (D.content disk.old) (D.moment disk.old) (D.moment disk.new) (D.left_since disk.old) (D.left_since disk.new) }
+    ensures time { AddsNoCut D.content D.moment D.left_since disk.old disk.new }
     ensures faults { D.faults disk.old ≤ D.faults disk.new }
     ensures cause { IfErr result (λ fault. fault ≡ DiskFault → Rose (D.faults disk.old) (D.faults disk.new)) }
 {
     for wanted in (0..left).rev() {
-        let log = older_log(disk, geometry, logs, wanted, block)?;
+        let log = older_log(disk, geometry, logs, wanted, places, blocks)?;
         logs.push(log)?;
     }
     Ok(())
 }
 
-// All logs, once they have passed their tests.
+// All logs, once they have passed their tests. The table has each block in its own place, and then where these logs
+// have put it.
 fn tested_logs<D: Disk>(
     alloc: Global,
     disk: &mut D,
     geometry: Geometry,
+    places: &mut [u32],
 ) -> Result<Vec<Log>, ChainFault>
     requires valid { IsValid geometry }
     requires sizes { D.stated disk.old ≡ Some geometry }
-    ensures logs { IfOk result (λ logs. AreLogs geometry logs.items) }
-    ensures sound { (c : Content) → D.content disk.old ≡ Some c → MatchResult result (λ logs. IsSoundWith geometry (contents_of c.now) (generations_of geometry logs.items)) (TellsFirst geometry (contents_of c.now)) }
-    ensures magic { (c : Content) → D.content disk.old ≡ Some c → MatchResult result (λ _. HasMagic (contents_of c.now 0)) (TellsMagic (contents_of c.now 0)) }
+    requires table { IsTable geometry places.old }
+    requires follows { Follows geometry (λ x. x) places.old }
+    ensures logs { IfOk result (λ logs. AreWhole geometry logs.items) }
+    ensures table { OnOk result (IsTable geometry places.new) }
+    ensures follows { IfOk result (λ logs. Follows geometry (base (generations_of geometry logs.items)) places.new) }
+    ensures sound { OfImage (D.content disk.old)
+        (λ image. MatchResult result (λ logs. IsSoundWith geometry image (generations_of geometry logs.items))
+        (TellsFirst geometry image)) }
+    ensures magic { OfImage (D.content disk.old)
+        (λ image. MatchResult result (λ _. HasMagic (image 0)) (TellsMagic (image 0))) }
     ensures sizes { D.stated disk.new ≡ Some geometry }
     ensures step { Goes Same (D.content disk.old) (D.content disk.new) }
-    ensures time { AddsNoCut (D.content disk.old) (D.moment disk.old) (D.moment disk.new) (D.left_since disk.old) (D.left_since disk.new) }
+    ensures time { AddsNoCut D.content D.moment D.left_since disk.old disk.new }
     ensures faults { D.faults disk.old ≤ D.faults disk.new }
     ensures cause { IfErr result (λ fault. fault ≡ DiskFault → Rose (D.faults disk.old) (D.faults disk.new)) }
 {
-    let mut block = vec![in alloc; 0u8; geometry.block_size as usize]?;
+    let mut blocks = vec![in alloc; 0u8; 8 * geometry.block_size as usize]?;
     let mut logs = Vec::new(alloc);
-    let first = first_log(disk, geometry, &mut block)?;
+    let first = first_log(disk, geometry, places, &mut blocks)?;
     let left = first.sequence;
     logs.push(first)?;
-    add_older(disk, geometry, &mut logs, left, &mut block)?;
+    add_older(disk, geometry, &mut logs, left, places, &mut blocks)?;
     Ok(logs)
 }
 
-/// Loads the chain of logs of the image that the disk holds. It makes reads alone. Its memory is that of the logs, which
-/// lie in blocks of their own, and one block.
+/// Loads the chain of logs of the image that the disk holds. It makes reads alone, and looks at each block of each
+/// entry once. Its memory is that of the logs, which lie in blocks of their own, one number for each block of the
+/// device, which is taken before the first read, and eight blocks.
 ///
 /// The chain is loaded exactly where the image is sound. Else the first fault is told: `NoLog` exactly where block 0
-/// begins with neither magic, and `BadLog`, `BadSequence` and `BadSum` with the values that were found. `DiskFault` comes
-/// only where the disk's count of faults rose in this call, `NoMemory` where there is none; either may come in place of
-/// what lies behind.
+/// begins with neither magic, and `BadLog`, `BadSequence` and `BadSum` with the values that were found. `DiskFault`
+/// comes only where the disk's count of faults rose in this call, `NoMemory` where there is none; either may come in
+/// place of what lies behind.
 ///
 /// Condition: the geometry is valid and the disk's.
 pub fn load<D: Disk>(alloc: Global, disk: &mut D, geometry: Geometry) -> Result<Chain, ChainFault>
@@ -240,23 +281,33 @@ pub fn load<D: Disk>(alloc: Global, disk: &mut D, geometry: Geometry) -> Result<
     requires sizes { D.stated disk.old ≡ Some geometry }
     ensures geometry { IfOk result (λ chain. chain.geometry ≡ geometry) }
     // Over a disk that tells its content: what is loaded, and what is told.
-    ensures sound { (c : Content) → D.content disk.old ≡ Some c → IfOk result (λ chain. IsSoundWith geometry (contents_of c.now) chain.generations) }
-    ensures fault { (c : Content) → D.content disk.old ≡ Some c → IfErr result (TellsFirst geometry (contents_of c.now)) }
+    ensures sound { OfImage (D.content disk.old)
+        (λ image. IfOk result (λ chain. IsSoundWith geometry image chain.generations)) }
+    ensures fault { OfImage (D.content disk.old) (λ image. IfErr result (TellsFirst geometry image)) }
     // Each sound image is loaded, and each first fault told, unless the disk fails or memory is wanting.
-    ensures each_sound { (c : Content) → D.content disk.old ≡ Some c → (log : Generation) (older : List Generation) → IsSound geometry (contents_of c.now) log older →
-        MatchResult result (λ chain. chain.generations ≡ log ∷ older) IsOutside }
-    ensures each_fault { (c : Content) → D.content disk.old ≡ Some c → (first : ChainFault) → IsFirstFault geometry (contents_of c.now) first →
-        MatchResult result (λ _. ⊥) (λ fault. (fault ≡ first) ⊎ IsOutside fault) }
+    ensures each_sound { OfImage (D.content disk.old) (λ image.
+        (log : Generation) (older : List Generation) → IsSound geometry image log older
+        → MatchResult result (λ chain. chain.generations ≡ log ∷ older) IsOutside) }
+    ensures each_fault { OfImage (D.content disk.old) (λ image.
+        (first : ChainFault) → IsFirstFault geometry image first
+        → MatchResult result (λ _. ⊥) (λ fault. (fault ≡ first) ⊎ IsOutside fault)) }
     // There is no log exactly where block 0 has no magic.
-    ensures magic { (c : Content) → D.content disk.old ≡ Some c → MatchResult result (λ _. HasMagic (contents_of c.now 0)) (TellsMagic (contents_of c.now 0)) }
-    ensures few { (c : Content) → D.content disk.old ≡ Some c → IfOk result (λ chain. length chain.generations ≤ geometry.blocks) }
+    ensures magic { OfImage (D.content disk.old)
+        (λ image. MatchResult result (λ _. HasMagic (image 0)) (TellsMagic (image 0))) }
+    ensures few { (c : Content) → D.content disk.old ≡ Some c
+        → IfOk result (λ chain. length chain.generations ≤ geometry.blocks) }
     // Nothing but reads is made.
     ensures sizes { D.stated disk.new ≡ Some geometry }
     ensures step { Goes Same (D.content disk.old) (D.content disk.new) }
-    ensures cuts { AddsNoCut (D.content disk.old) (D.moment disk.old) (D.moment disk.new) (D.left_since disk.old) (D.left_since disk.new) }
+    ensures cuts { AddsNoCut D.content D.moment D.left_since disk.old disk.new }
     ensures faults { D.faults disk.old ≤ D.faults disk.new }
     ensures cause { IfErr result (λ fault. fault ≡ DiskFault → Rose (D.faults disk.old) (D.faults disk.new)) }
 {
-    let logs = tested_logs(alloc, disk, geometry)?;
-    Ok(Chain { geometry, logs })
+    let mut places = own_places(alloc, geometry)?;
+    let logs = tested_logs(alloc, disk, geometry, &mut places)?;
+    Ok(Chain {
+        geometry,
+        logs,
+        places,
+    })
 }

@@ -1,63 +1,48 @@
-// Where backups have put the content of a block.
-ghost use Rattle.std.specs.Prelude.{◌≡◌, ◌<◌, ◌^◌, ◌++◌, map, length};
-ghost use Rattle.std.specs.List.{AllByRecursion as Each};
+// Where backups have put the content of each block: a table with one number for each.
+ghost use Rattle.std.specs.Prelude.{◌≡◌, ◌<◌, ◌≤◌, ℕ, length, IfOk};
 ghost use Rattle.bow_units.specs.Sizes.{IsValid};
-ghost use Rattle.bow_log.specs.Generations.{sectors, backup_of};
-ghost use Rattle.bow_chain.specs.Places.{hop, pass, base};
-ghost use Rattle.bow_chain.specs.Chains.{AreLogs, IsEntry, generations_of};
+ghost use Rattle.bow_log.specs.Generations.{IsEntry, backup_of};
+ghost use Rattle.bow_chain.specs.Places.{hop};
+ghost use Rattle.bow_chain.specs.Tables.{place_in, IsTable, Follows};
 
-use bow_log::{Entry, Log};
+use bow_log::Entry;
 use bow_units::Geometry;
+use std::alloc::{AllocError, Global};
 
-/// How many sectors of 512 bytes a block has.
-pub(crate) fn sectors(geometry: Geometry) -> u64
-    requires { IsValid geometry }
-    ensures { result ≡ sectors geometry }
+// Puts each block in its own place.
+fn put_back(places: &mut [u32])
+    requires few { length places.old ≤ 1048576 }
+    ensures long { length places.new ≡ length places.old }
+    ensures own { (x : ℕ) → x < length places.old → place_in places.new x ≡ x }
 {
-    geometry.block_size as u64 / 512
+    for block in 0..places.len() {
+        places[block] = block as u32;
+    }
 }
 
-// Where this entry puts the content of a block.
-fn hop(entry: Entry, geometry: Geometry, block: u64) -> u64
+/// The table before any log: each block lies in its own place. It has one number for each block.
+pub(crate) fn own_places(alloc: Global, geometry: Geometry) -> Result<Vec<u32>, AllocError>
+    requires valid { IsValid geometry }
+    ensures table { IfOk result (λ places. IsTable geometry places.items) }
+    ensures own { IfOk result (λ places. Follows geometry (λ x. x) places.items) }
+{
+    let mut places = vec![in alloc; 0u32; geometry.blocks as usize]?;
+    put_back(&mut places);
+    Ok(places)
+}
+
+/// Takes in one entry more, where those after it are in the table: a block of its source lies where that of its dest
+/// does.
+pub(crate) fn take_in(places: &mut [u32], geometry: Geometry, entry: Entry)
     requires valid { IsValid geometry }
     requires entry { IsEntry geometry entry }
-    requires on { block < geometry.blocks }
-    ensures place { result ≡ hop (backup_of geometry entry) block }
-    ensures on { result < geometry.blocks }
+    requires table { IsTable geometry places.old }
+    ensures table { IsTable geometry places.new }
+    ensures moved { Follows geometry (λ x. place_in places.old (hop (backup_of geometry entry) x)) places.new }
 {
-    let sector = block * sectors(geometry);
-    if sector < entry.source || sector - entry.source >= entry.size as u64 / 512 {
-        return block;
+    let source = entry.source_blocks(geometry);
+    let dest = entry.dest_blocks(geometry);
+    for offset in 0..source.count {
+        places[(source.first + offset) as usize] = places[(dest.first + offset) as usize];
     }
-    (entry.dest + (sector - entry.source)) / sectors(geometry)
-}
-
-// Where these entries of one log, the oldest first, put it.
-pub(crate) fn pass(entries: &[Entry], geometry: Geometry, block: u64) -> u64
-    requires valid { IsValid geometry }
-    requires entries { Each (IsEntry geometry) entries.now }
-    requires on { block < geometry.blocks }
-    ensures place { result ≡ pass (map (backup_of geometry) entries.now) block }
-    ensures on { result < geometry.blocks }
-{
-    let mut place = block;
-    for index in 0..entries.len() {
-        place = hop(entries[index], geometry, place);
-    }
-    place
-}
-
-// Where these logs, the newest first, put it.
-pub(crate) fn base(logs: &[Log], geometry: Geometry, block: u64) -> u64
-    requires logs { AreLogs geometry logs.now }
-    requires on { block < geometry.blocks }
-    ensures place { result ≡ base (generations_of geometry logs.now) block }
-    ensures on { result < geometry.blocks }
-{
-    let mut place = block;
-    for index in (0..logs.len()).rev() {
-        let log = &logs[index];
-        place = pass(&log.entries, geometry, place);
-    }
-    place
 }

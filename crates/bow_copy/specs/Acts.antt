@@ -50,6 +50,7 @@ IsOver p = (p.failed ≡ true) ⊎ (p.done ≡ length (acts p.job))
 abbrev pub next_act : Progress → Act
 next_act p = if p.failed then End else slice_index_or (acts p.job) p.done End
 
+-- the act writes the log
 abbrev pub is_write_log : Act → Bool
 is_write_log WriteLog = true
 is_write_log _ = false
@@ -60,7 +61,9 @@ log_tried job tried = list_any is_write_log (take tried (acts job))
 
 -- what the next act leads to, done or failed
 abbrev pub after_act : Progress → Bool → After
-after_act p true = if is_write_log (next_act p) then LogGiven else (if p.done + 1 == length (acts p.job) then Clean else Going)
+after_act p true =
+    if is_write_log (next_act p) then LogGiven
+    else (if p.done + 1 == length (acts p.job) then Clean else Going)
 after_act p false = Failed (log_tried p.job (p.done + 1))
 
 -- the batch after its next act, done or failed
@@ -70,4 +73,5 @@ step_of p false = record p { failed = true }
 
 -- the acts of a copy between blocks whose numbers all fit
 abbrev pub plain_copy : ℕ → ℕ → ℕ → List Act
-plain_copy source dest count = map (λ i. Read (source + i) i) (range_with_len 0 count) ++ map (λ i. Write (dest + i) i) (range_with_len 0 count) ++ Flush ∷ WriteLog ∷ Flush ∷ []
+plain_copy source dest count = map (λ i. Read (source + i) i) (range_with_len 0 count)
+    ++ map (λ i. Write (dest + i) i) (range_with_len 0 count) ++ Flush ∷ WriteLog ∷ Flush ∷ []

@@ -166,5 +166,6 @@ fn copying(source: u64, dest: u64, count: u32, place: u32) -> Act
 /// Where the blocks of a copy have numbers that fit, its acts are the reads of its sources in rising order,
 /// the writes of its dests in rising order, a flush, the log, and a flush.
 pub fn acts_of_fitting_blocks_law()
-    ensures { (source dest count : ℕ) → source + count ≤ 2 ^ 64 → dest + count ≤ 2 ^ 64 → acts (Job.Copy source dest count) ≡ plain_copy source dest count }
+    ensures { (source dest count : ℕ) → source + count ≤ 2 ^ 64 → dest + count ≤ 2 ^ 64
+        → acts (Job.Copy source dest count) ≡ plain_copy source dest count }
 {}

@@ -14,14 +14,18 @@ Joins = (r : ℕ) (xs ys : List ℕ) → register r (xs ++ ys) ≡ register (reg
 
 -- another byte in one place, as one with a flipped bit, makes another checksum
 abbrev pub ByteTells : Type 0
-ByteTells = (front : List ℕ) (a b : ℕ) (back : List ℕ) → AreBytes front → a < 256 → b < 256 → AreBytes back → a ≢ b → crc_of (front ++ (a ∷ back)) ≢ crc_of (front ++ (b ∷ back))
+ByteTells = (front : List ℕ) (a b : ℕ) (back : List ℕ) → AreBytes front → a < 256 → b < 256 → AreBytes back → a ≢ b
+    → crc_of (front ++ (a ∷ back)) ≢ crc_of (front ++ (b ∷ back))
 
 -- another byte in one place of one block makes another sum
 abbrev pub BlockTells : Type 0
 BlockTells =
-    (number : ℕ) (before after : List (List ℕ)) (front : List ℕ) (a b : ℕ) (back : List ℕ) → AreBytes front → a < 256 → b < 256 → AreBytes back → a ≢ b
-    → sum_of number (before ++ ((front ++ (a ∷ back)) ∷ after)) ≢ sum_of number (before ++ ((front ++ (b ∷ back)) ∷ after))
+    (number : ℕ) (before after : List (List ℕ)) (front : List ℕ) (a b : ℕ) (back : List ℕ) → AreBytes front → a < 256
+    → b < 256 → AreBytes back → a ≢ b
+    → sum_of number (before ++ ((front ++ (a ∷ back)) ∷ after))
+    ≢ sum_of number (before ++ ((front ++ (b ∷ back)) ∷ after))
 
 -- joined blocks are cut into the same blocks
 abbrev pub CutsJoined : Type 0
-CutsJoined = (size : ℕ) (blocks : List (List ℕ)) → 0 < size → Each (λ block. length block ≡ size) blocks → blocks_of size (concat blocks) ≡ blocks
+CutsJoined = (size : ℕ) (blocks : List (List ℕ)) → 0 < size → Each (λ block. length block ≡ size) blocks
+    → blocks_of size (concat blocks) ≡ blocks

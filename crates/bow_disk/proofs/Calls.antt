@@ -1,7 +1,8 @@
 -- What the trait asks of each call, of a disk in memory whose state a call made so.
-use Rattle.std.proofs.Common.{◌≡◌, inl, inr, ℕ, ◌+◌, ◌-◌, ◌^◌, ◌<◌, min, false, List, length, map, Option, None, Some, sym, ap, ◌∙◌, subst, arith}
+use Rattle.std.proofs.Common.{◌≡◌, inl, inr, ℕ, ◌+◌, ◌-◌, ◌^◌, ◌<◌, min, false, List, map, Option, None, Some, sym, ap, ◌∙◌, subst, arith}
 use Rattle.std.specs.Prelude.{Result, Ok, Err, is_err, is_some}
 use Rattle.bow_units.specs.Causes.{HasCause}
+use Rattle.bow_units.specs.Blocks.{IsBlock}
 use Rattle.bow_disk.specs.declared.failing.FailMode.{FailMode}
 use Rattle.bow_disk.specs.declared.failing.FailMode.TheVariants.{Lost, Kept}
 use Rattle.bow_disk.specs.Disk.{IsCrash, Same, WriteStep, FlushStep, Elapses}
@@ -47,7 +48,7 @@ module _ (s : State) (fit : IsFit s) where
       by None fails = steady s.faults r fails
       by (Some mode) fails = risen s.faults r fit.faults
 
-  module _ (at : ℕ) (v : List ℕ) (within : at < s.geometry.blocks) (whole : length v ≡ s.geometry.block_size) where
+  module _ (at : ℕ) (v : List ℕ) (within : at < s.geometry.blocks) (whole : IsBlock s.geometry.block_size v) where
     pub write_fit : (f : Option FailMode) → HasNumber f s.calls → IsFit (written_by f at v s)
     write_fit None small = written_fit s fit small at v within whole
     write_fit (Some Lost) small = faulted_fit s fit
@@ -110,17 +111,17 @@ with_flush_at : Past → ℕ → Past
 with_flush_at p f = record p { writes = map (flush_change f) p.writes }
 
 -- the parts of a disk in memory after a flush that succeeded
-pub flushed_parts : (p later : Past) (calls call : ℕ) (failing : List (ℕ × FailMode)) (stop faults : ℕ) → IsFit (state_of p calls failing stop faults)
+pub flushed_parts : (p later : Past) (calls call : ℕ) (failing : List (ℕ × FailMode)) (stop faults sizeless : ℕ) → IsFit (state_of p calls failing stop faults sizeless)
     → (r : Option FailMode) → r ≡ failure_after failing stop calls → is_some r ≡ false
-    → call ≡ min (calls + 1) (2 ^ 64 - 1) → later ≡ record p { writes = map (flush_change call) p.writes } → IsFit (state_of later call failing stop faults)
+    → call ≡ min (calls + 1) (2 ^ 64 - 1) → later ≡ record p { writes = map (flush_change call) p.writes } → IsFit (state_of later call failing stop faults sizeless)
 unfolding with_flush_at
-flushed_parts p later calls call failing stop faults fit r is none is_call is_later =
-    let s : State = state_of p calls failing stop faults in
+flushed_parts p later calls call failing stop faults sizeless fit r is none is_call is_later =
+    let s : State = state_of p calls failing stop faults sizeless in
     let small : calls < 2 ^ 64 - 1 = small_of r (subst (λ (f : Option FailMode). HasNumber f calls) (sym is) (number s fit)) none in
     let one : call ≡ calls + 1 = omega arith in
     let past : later ≡ with_flush_at p (calls + 1) = is_later ∙ ap (with_flush_at p) one in
-    subst (λ (q : Past). IsFit (state_of q call failing stop faults)) (sym past)
-    (subst (λ (k : ℕ). IsFit (state_of (with_flush_at p (calls + 1)) k failing stop faults)) (sym is_call) (flushed_fit s fit small))
+    subst (λ (q : Past). IsFit (state_of q call failing stop faults sizeless)) (sym past)
+    (subst (λ (k : ℕ). IsFit (state_of (with_flush_at p (calls + 1)) k failing stop faults sizeless)) (sym is_call) (flushed_fit s fit small))
   where
     small_of : (r : Option FailMode) → HasNumber r calls → is_some r ≡ false → calls < 2 ^ 64 - 1
     small_of None small none = small

@@ -1,4 +1,5 @@
 pub mod Blocks
+pub mod Moments
 pub mod Layouts
 pub mod Calls
 pub mod Fresh

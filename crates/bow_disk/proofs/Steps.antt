@@ -5,6 +5,7 @@ use Rattle.std.specs.List.{All}
 use Rattle.std.proofs.lemmas.Bool.{le-leb, cases_lt, cases_Bool}
 use Rattle.std.proofs.lemmas.Bool.Decides.{nat_tests}
 use Rattle.std.proofs.lemmas.List.Elements.{All-push, All-weaker, All-map}
+use Rattle.bow_units.specs.Blocks.{IsBlock}
 use Rattle.bow_disk.specs.declared.failing.FailMode.{FailMode}
 use Rattle.bow_disk.specs.declared.failing.FailMode.TheVariants.{Lost, Kept}
 use Rattle.bow_disk.specs.Disk.{IsCrash, Same, Written, Flushed, Elapses, offered}
@@ -67,10 +68,10 @@ module _ (s : State) (fit : IsFit s) where
       (older s.calls (min (s.calls + 1) (2 ^ 64 - 1)) s.geometry.blocks s.geometry.block_size (let h : s.calls < 2 ^ 64 = fit.calls in omega arith)) s.writes fit.past
 
   pub counted_fit : IsFit (counted s)
-  counted_fit = record { valid = fit.valid; blocks = fit.blocks; sized = fit.sized; past = same_past; calls = omega arith; stop = fit.stop; faults = fit.faults }
+  counted_fit = record { blocks = fit.blocks; sized = fit.sized; past = same_past; calls = omega arith; stop = fit.stop; faults = fit.faults }
 
   pub faulted_fit : IsFit (faulted s)
-  faulted_fit = record { valid = fit.valid; blocks = fit.blocks; sized = fit.sized; past = same_past; calls = omega arith; stop = fit.stop; faults = omega arith }
+  faulted_fit = record { blocks = fit.blocks; sized = fit.sized; past = same_past; calls = omega arith; stop = fit.stop; faults = omega arith }
 
   pub same_content : Same (content s) (content (counted s))
   same_content = (refl, candidates_later s.calls (min (s.calls + 1) (2 ^ 64 - 1)) s.geometry.blocks s.geometry.block_size (alone s.first) s.writes fit.past (let h : s.calls < 2 ^ 64 = fit.calls in omega arith))
@@ -79,16 +80,16 @@ module _ (s : State) (fit : IsFit s) where
   same_time = elapse s.first s.writes s.writes s.calls fit.calls (λ k le. refl)
 
   -- a write of v that has its effect
-  module _ (small : s.calls < 2 ^ 64 - 1) (at : ℕ) (v : List ℕ) (within : at < s.geometry.blocks) (whole : length v ≡ s.geometry.block_size) where
+  module _ (small : s.calls < 2 ^ 64 - 1) (at : ℕ) (v : List ℕ) (within : at < s.geometry.blocks) (whole : IsBlock s.geometry.block_size v) where
     written_past : All (IsPast (min (s.calls + 1) (2 ^ 64 - 1)) s.geometry.blocks s.geometry.block_size) (s.writes ++ record { call = s.calls + 1; block = at; value = v; flushed = None } ∷ [])
     written_past = All-push (IsPast (min (s.calls + 1) (2 ^ 64 - 1)) s.geometry.blocks s.geometry.block_size) s.writes (record { call = s.calls + 1; block = at; value = v; flushed = None }) same_past
         (record { call = omega arith; block = within; flushed = λ f is. absurd (cc is); value = whole })
 
     pub written_fit : IsFit (counted (with_write at v s))
-    written_fit = record { valid = fit.valid; blocks = fit.blocks; sized = fit.sized; past = written_past; calls = omega arith; stop = fit.stop; faults = fit.faults }
+    written_fit = record { blocks = fit.blocks; sized = fit.sized; past = written_past; calls = omega arith; stop = fit.stop; faults = fit.faults }
 
     pub kept_fit : IsFit (faulted (with_write at v s))
-    kept_fit = record { valid = fit.valid; blocks = fit.blocks; sized = fit.sized; past = written_past; calls = omega arith; stop = fit.stop; faults = omega arith }
+    kept_fit = record { blocks = fit.blocks; sized = fit.sized; past = written_past; calls = omega arith; stop = fit.stop; faults = omega arith }
 
     pub written_content : Written at v (content s) (content (counted (with_write at v s)))
     written_content = (
@@ -117,7 +118,7 @@ module _ (s : State) (fit : IsFit s) where
         (flush_past s.calls (s.calls + 1) s.geometry.blocks s.geometry.block_size (omega arith)) s.writes fit.past)
 
     pub flushed_fit : IsFit (counted (with_flush s))
-    flushed_fit = record { valid = fit.valid; blocks = fit.blocks; sized = fit.sized; past = rw same_number flushed_past; calls = omega arith; stop = fit.stop; faults = fit.faults }
+    flushed_fit = record { blocks = fit.blocks; sized = fit.sized; past = rw same_number flushed_past; calls = omega arith; stop = fit.stop; faults = fit.faults }
 
     pub flushed_content : Flushed (content s) (content (counted (with_flush s)))
     flushed_content = (

@@ -1,5 +1,5 @@
 -- Which candidate of each block a cut takes.
-use Rattle.std.specs.Prelude.{ℕ, ◌-◌, ◌%◌, nat_lt, if◌then◌else◌, List, [], ◌∷◌, length, slice_index_or}
+use Rattle.std.specs.Prelude.{ℕ, ◌+◌, ◌-◌, ◌%◌, nat_lt, if◌then◌else◌, List, [], ◌∷◌, length, slice_index_or}
 use Rattle.bow_units.specs.Draws.{next_number, drawn_value}
 use Rattle.bow_disk.specs.declared.cuts.Pick.{Pick}
 use Rattle.bow_disk.specs.declared.cuts.Pick.TheVariants.{Oldest, Newest, Seeded}
@@ -24,3 +24,8 @@ picked_candidate pick c = slice_index_or c (choice pick (length c)) []
 abbrev pub picked : Pick → List (List (List ℕ)) → List (List ℕ)
 picked pick [] = []
 picked pick (c ∷ cs) = picked_candidate pick c ∷ picked (after_choice pick (length c)) cs
+
+-- which candidate of each block is taken, by the number of its last one
+abbrev pub choices : Pick → List ℕ → List ℕ
+choices pick [] = []
+choices pick (last ∷ lasts) = choice pick (last + 1) ∷ choices (after_choice pick (last + 1)) lasts

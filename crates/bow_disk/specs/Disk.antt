@@ -1,5 +1,7 @@
 -- What the calls of a disk do to its image, and what a cut may leave.
 use Rattle.std.specs.Prelude.{◌≡◌, ◌⊎◌, ℕ, ◌+◌, ◌-◌, ◌^◌, ◌<◌, ◌≤◌, ◌↔◌, min, max, List, [], ◌∷◌, ◌++◌, length, map, slice_set, slice_index_or, Option, None, Some, Result, MatchResult, Contains}
+use Rattle.std.specs.List.{All}
+use Rattle.bow_units.specs.Blocks.{IsBlock}
 use Rattle.bow_units.specs.declared.sizes.Geometry.{Geometry}
 
 -- an image is a list of blocks, and a block is a list of bytes
@@ -49,7 +51,8 @@ Offered b v old new = (new.now ≡ old.now) × (new.candidates ≡ offered old.c
 
 -- a write that was answered so: a failed one may have done anything between nothing and all
 abbrev pub WriteStep : {T E : Type 0} → Result T E → ℕ → List ℕ → Content → Content → Type 0
-WriteStep r b v old new = MatchResult r (λ _. Written b v old new) (λ _. Same old new ⊎ (Offered b v old new ⊎ Written b v old new))
+WriteStep r b v old new =
+    MatchResult r (λ _. Written b v old new) (λ _. Same old new ⊎ (Offered b v old new ⊎ Written b v old new))
 
 -- each block has what it holds as its one candidate
 abbrev pub Flushed : Content → Content → Type 0
@@ -63,15 +66,25 @@ FlushStep r old new = MatchResult r (λ _. Flushed old new) (λ _. Same old new)
 abbrev pub Holds : ℕ → List ℕ → Content → Type 0
 Holds b v c = slice_index_or c.now b [] ≡ v
 
--- it has the sizes that the disk states, and what a block holds is one of its candidates
+-- an image of a device of these sizes: so many blocks, each of so many bytes
+pub record IsImage (size count : ℕ) (image : List (List ℕ)) : Type 0 where
+  pub blocks : length image ≡ count
+  pub each : (b : ℕ) → b < count → IsBlock size (slice_index_or image b [])
+
+-- the candidates of each block are bytes of a block
+abbrev pub AreOfBlocks : ℕ → ℕ → List (List (List ℕ)) → Type 0
+AreOfBlocks size count candidates = (b : ℕ) → b < count → All (IsBlock size) (slice_index_or candidates b [])
+
+-- it has the sizes that the disk states; what a block holds is one of its candidates, and these are bytes of a block
 pub record IsShaped (size count : ℕ) (c : Content) : Type 0 where
   pub blocks : length c.now ≡ count
-  pub sized : (b : ℕ) → b < count → length (slice_index_or c.now b []) ≡ size
   pub listed : length c.candidates ≡ count
   pub held : (b : ℕ) → b < count → Contains (slice_index_or c.candidates b []) (slice_index_or c.now b [])
+  pub sized : AreOfBlocks size count c.candidates
 
 -- Time goes on by one call: a cut since t might have left what it might have left before, or what it may leave now.
-pub record Elapses (before now : ℕ) (past since : ℕ → List (List ℕ) → Type 0) (leaves : List (List ℕ) → Type 0) : Type 0 where
+pub record Elapses (before now : ℕ) (past since : ℕ → List (List ℕ) → Type 0)
+    (leaves : List (List ℕ) → Type 0) : Type 0 where
   pub count : now ≡ max before (min (before + 1) (2 ^ 64 - 1))
   pub nothing_else : (t : ℕ) (c : List (List ℕ)) → t ≤ before → since t c → past t c ⊎ leaves c
   pub keeps : (t : ℕ) (c : List (List ℕ)) → t ≤ before → past t c → since t c
@@ -93,4 +106,10 @@ HasBlock (Some g) at len = (at < g.blocks) × (len ≡ g.block_size)
 
 -- a cut of a disk that is settled on an image leaves that image and no other
 abbrev pub SettledLaw : Type 0
-SettledLaw = (image : Image) (c : Content) → IsSettledOn image c → (cut : Image) → IsCrash c.candidates cut ↔ (cut ≡ image)
+SettledLaw = (image : Image) (c : Content) → IsSettledOn image c → (cut : Image)
+    → IsCrash c.candidates cut ↔ (cut ≡ image)
+
+-- what a disk holds is an image of its sizes, and so is whatever a cut leaves of it
+abbrev pub ImagesLaw : Type 0
+ImagesLaw = (size count : ℕ) (c : Content) → IsShaped size count c
+    → IsImage size count c.now × ((image : Image) → IsCrash c.candidates image → IsImage size count image)

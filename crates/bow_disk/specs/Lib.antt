@@ -1,4 +1,6 @@
 pub mod Disk
+pub mod Shapes
+pub mod Moments
 pub mod Memory
 pub mod MemoryLaws
 pub mod Bytes

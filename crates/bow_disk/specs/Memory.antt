@@ -1,8 +1,8 @@
 -- A disk in memory: what it keeps, what each call makes of that, and what it says of every moment since it was made.
-use Rattle.std.specs.Prelude.{◌≡◌, ◌==◌, ℕ, ◌+◌, ◌-◌, ◌^◌, ◌<◌, ◌≤◌, min, Bool, false, nat_le, if◌then◌else◌, List, [], ◌∷◌, ◌++◌, length, map, fold, slice_set, Option, None, Some}
+use Rattle.std.specs.Prelude.{◌≡◌, ◌==◌, ℕ, ◌+◌, ◌-◌, ◌^◌, ◌<◌, ◌≤◌, min, Bool, false, nat_le, nat_lt, if◌then◌else◌, List, [], ◌∷◌, ◌++◌, length, map, fold, slice_set, Option, None, Some}
 use Rattle.std.specs.Option.{ForSome}
 use Rattle.std.specs.List.{All}
-use Rattle.bow_units.specs.Sizes.{IsValid}
+use Rattle.bow_units.specs.Blocks.{IsBlock}
 use Rattle.bow_units.specs.declared.sizes.Geometry.{Geometry}
 use Rattle.bow_disk.specs.declared.failing.FailMode.{FailMode}
 use Rattle.bow_disk.specs.declared.failing.FailMode.TheVariants.{Lost, Kept}
@@ -28,6 +28,8 @@ pub record State : Type 0 where
   pub failing : List (ℕ × FailMode)
   pub stop : ℕ
   pub faults : ℕ
+  -- how many of the next questions for the sizes fail
+  pub sizeless : ℕ
 
 -- whether a change was flushed by the end of call k
 abbrev pub is_flushed_by : ℕ → Option ℕ → Bool
@@ -45,7 +47,9 @@ alone image = map (λ x. x ∷ []) image
 
 -- what a change made of the candidates that the end of call k left
 abbrev pub change_at : ℕ → List (List (List ℕ)) → Change → List (List (List ℕ))
-change_at k cs w = if nat_le w.call k then (if is_flushed_by k w.flushed then slice_set cs w.block (w.value ∷ []) else offered cs w.block w.value) else cs
+change_at k cs w =
+    if nat_le w.call k then (if is_flushed_by k w.flushed then slice_set cs w.block (w.value ∷ [])
+    else offered cs w.block w.value) else cs
 
 -- the candidates that the end of call k left
 abbrev pub candidates_at : ℕ → List (List (List ℕ)) → List Change → List (List (List ℕ))
@@ -60,18 +64,17 @@ content s = record { now = latest s.first s.writes; candidates = candidates_at s
 abbrev pub LeftSince : State → ℕ → List (List ℕ) → Type 0
 LeftSince s t image = (k : ℕ) × (t ≤ k) × (k ≤ s.calls) × IsCrash (candidates_at k (alone s.first) s.writes) image
 
--- a change made by the end of call k, of a block of so many, of so many bytes
+-- a change made by the end of call k, of a block of so many, to so many bytes
 pub record IsPast (k blocks size : ℕ) (w : Change) : Type 0 where
   pub call : w.call ≤ k
   pub block : w.block < blocks
   pub flushed : ForSome w.flushed (λ f. f ≤ k)
-  pub value : length w.value ≡ size
+  pub value : IsBlock size w.value
 
 -- the parts fit together
 pub record IsFit (s : State) : Type 0 where
-  pub valid : IsValid s.geometry
   pub blocks : length s.first ≡ s.geometry.blocks
-  pub sized : All (λ v. length v ≡ s.geometry.block_size) s.first
+  pub sized : All (IsBlock s.geometry.block_size) s.first
   pub past : All (IsPast s.calls s.geometry.blocks s.geometry.block_size) s.writes
   pub calls : s.calls < 2 ^ 64
   pub stop : s.stop < 2 ^ 64
@@ -84,7 +87,17 @@ pub record Memory : Type 0 where
 
 -- a disk in memory that was just made of an image
 abbrev pub fresh : Geometry → List (List ℕ) → ℕ → State
-fresh geometry image room = record { geometry = geometry; first = image; writes = []; calls = 0; room = room; failing = []; stop = 2 ^ 64 - 1; faults = 0 }
+fresh geometry image room = record {
+  geometry = geometry;
+  first = image;
+  writes = [];
+  calls = 0;
+  room = room;
+  failing = [];
+  stop = 2 ^ 64 - 1;
+  faults = 0;
+  sizeless = 0;
+}
 
 -- how call number `call` fails by these listings, where it is listed: the latest listing decides
 abbrev pub listed : List (ℕ × FailMode) → ℕ → Option FailMode
@@ -112,7 +125,8 @@ faulted s = record s { calls = min (s.calls + 1) (2 ^ 64 - 1); faults = min (s.f
 
 -- the next call writes v to a block
 abbrev pub with_write : ℕ → List ℕ → State → State
-with_write at v s = record s { writes = s.writes ++ record { call = s.calls + 1; block = at; value = v; flushed = None } ∷ [] }
+with_write at v s =
+    record s { writes = s.writes ++ record { call = s.calls + 1; block = at; value = v; flushed = None } ∷ [] }
 
 -- a change once call f has flushed
 abbrev pub flushed_at : ℕ → Option ℕ → Option ℕ
@@ -126,6 +140,11 @@ flush_change f w = record w { flushed = flushed_at f w.flushed }
 -- the next call flushes
 abbrev pub with_flush : State → State
 with_flush s = record s { writes = map (flush_change (s.calls + 1)) s.writes }
+
+-- what a question for the sizes leaves
+abbrev pub asked : State → State
+asked s =
+    if nat_lt 0 s.sizeless then record s { sizeless = s.sizeless - 1; faults = min (s.faults + 1) (2 ^ 64 - 1) } else s
 
 -- what a read leaves that fails so, or does not fail
 abbrev pub read_by : Option FailMode → State → State

@@ -1,5 +1,5 @@
 // Which candidate of each block a cut takes.
-ghost use Rattle.std.specs.Prelude.{◌≡◌, ◌<◌, ◌≤◌, ◌%◌, nat_lt, if◌then◌else◌};
+ghost use Rattle.std.specs.Prelude.{◌≡◌, ◌+◌, ◌%◌, nat_lt, if◌then◌else◌};
 ghost use Rattle.bow_units.specs.Draws.{next_number, drawn_value};
 ghost use Rattle.bow_disk.specs.Cuts.{choice, after_choice};
 ghost use Rattle.bow_disk.specs.Picking.{pick_of};
@@ -36,30 +36,26 @@ impl Picker {
         }
     }
 
-    // Which of so many candidates the next block takes.
-    pub(crate) fn choose(&mut self, count: usize) -> usize
-        requires { 0 < count }
-        ensures within { result < count }
-        ensures choice { result ≡ choice (pick_of self.old) count }
-        ensures after { pick_of self.new ≡ after_choice (pick_of self.old) count }
+    // Which of its candidates the next block takes, of which the last one has this number.
+    pub(crate) fn choose(&mut self, last: usize) -> usize
+        ensures choice { result ≡ choice (pick_of self.old) (last + 1) }
+        ensures after { pick_of self.new ≡ after_choice (pick_of self.old) (last + 1) }
     {
         match self {
             Picker::Oldest => 0,
-            Picker::Newest => count - 1,
-            Picker::Seeded(draws) => drawn(draws, count),
+            Picker::Newest => last,
+            Picker::Seeded(draws) => drawn(draws, last),
         }
     }
 }
 
-// Draws one of so many, where there is more than one.
-fn drawn(draws: &mut Draws, count: usize) -> usize
-    requires { 0 < count }
-    ensures within { result < count }
-    ensures value { result ≡ (if nat_lt 1 count then drawn_value (next_number draws.old) % count else 0) }
-    ensures after { draws.new ≡ (if nat_lt 1 count then next_number draws.old else draws.old) }
+// Draws a number up to the last one, where there is more than one.
+fn drawn(draws: &mut Draws, last: usize) -> usize
+    ensures value { result ≡ (if nat_lt 1 (last + 1) then drawn_value (next_number draws.old) % (last + 1) else 0) }
+    ensures after { draws.new ≡ (if nat_lt 1 (last + 1) then next_number draws.old else draws.old) }
 {
-    if count <= 1 {
+    if last == 0 {
         return 0;
     }
-    draws.draw(count.min(u32::MAX as usize) as u32) as usize
+    draws.draw(last.min(u32::MAX as usize - 1) as u32 + 1) as usize
 }

@@ -2,7 +2,7 @@
 ghost use Rattle.std.specs.Prelude.{◌≡◌, ◌<◌, ◌≤◌, ℕ, List, length, Option, Some, IfOk, OnOk, MatchOption};
 ghost use Rattle.bow_units.specs.Causes.{HasCause};
 ghost use Rattle.bow_units.specs.declared.sizes.Geometry.{Geometry};
-ghost use Rattle.bow_disk.specs.Disk.{Content, IsCrash, Goes, Same, WriteStep, FlushStep, Holds, IsShaped, TimeGoes, KeepsSizes, HasBlock, SettledLaw};
+ghost use Rattle.bow_disk.specs.Disk.{Content, IsCrash, Goes, Same, WriteStep, FlushStep, Holds, IsImage, IsShaped, TimeGoes, KeepsSizes, HasBlock, SettledLaw, ImagesLaw};
 
 use bow_units::{Failed, Geometry};
 
@@ -48,7 +48,8 @@ pub trait Disk {
         ensures gives { OnOk result (MatchOption (content self.old) (Unit {0}) (Holds at into.new)) }
         ensures always { KeepsSizes (stated self.old) (stated self.new) }
         ensures step { Goes Same (content self.old) (content self.new) }
-        ensures time { TimeGoes (content self.new) (moment self.old) (moment self.new) (left_since self.old) (left_since self.new) }
+        ensures time { TimeGoes (content self.new) (moment self.old) (moment self.new) (left_since self.old)
+            (left_since self.new) }
         ensures cause { HasCause (faults self.old) (faults self.new) result };
 
     /// Writes `from` to block `at`. The block is on the device, and `from` is as long as a block. After `Ok` the block
@@ -58,7 +59,8 @@ pub trait Disk {
         requires { HasBlock (stated self.old) at (length from.now) }
         ensures always { KeepsSizes (stated self.old) (stated self.new) }
         ensures step { Goes (WriteStep result at from.now) (content self.old) (content self.new) }
-        ensures time { TimeGoes (content self.new) (moment self.old) (moment self.new) (left_since self.old) (left_since self.new) }
+        ensures time { TimeGoes (content self.new) (moment self.old) (moment self.new) (left_since self.old)
+            (left_since self.new) }
         ensures cause { HasCause (faults self.old) (faults self.new) result };
 
     /// After `Ok` each block has what it holds as its one candidate. `Failed` comes only where the count of faults
@@ -66,20 +68,34 @@ pub trait Disk {
     fn flush(&mut self) -> Result<(), Failed>
         ensures always { KeepsSizes (stated self.old) (stated self.new) }
         ensures step { Goes (FlushStep result) (content self.old) (content self.new) }
-        ensures time { TimeGoes (content self.new) (moment self.old) (moment self.new) (left_since self.old) (left_since self.new) }
+        ensures time { TimeGoes (content self.new) (moment self.old) (moment self.new) (left_since self.old)
+            (left_since self.new) }
         ensures cause { HasCause (faults self.old) (faults self.new) result };
 
     /// What it tells has the sizes that it states.
-    ghost shaped: { (d : Self) (c : Content) → content d ≡ Some c → (g : Geometry) → stated d ≡ Some g → IsShaped g.block_size g.blocks c };
+    ghost shaped: { (d : Self) (c : Content) → content d ≡ Some c → (g : Geometry) → stated d ≡ Some g
+        → IsShaped g.block_size g.blocks c };
+
+    /// Whatever a cut at some moment left is an image of the sizes that it states.
+    ghost cuts_shaped: { (d : Self) (c : Content) → content d ≡ Some c → (g : Geometry) → stated d ≡ Some g
+        → (t : ℕ) (image : List (List ℕ)) → left_since d t image → IsImage g.block_size g.blocks image };
 
     /// This moment is one of those since an earlier one.
-    ghost counts_now: { (d : Self) (c : Content) → content d ≡ Some c → (t : ℕ) (image : List (List ℕ)) → t ≤ moment d → IsCrash c.candidates image → left_since d t image };
+    ghost counts_now: { (d : Self) (c : Content) → content d ≡ Some c → (t : ℕ) (image : List (List ℕ))
+        → t ≤ moment d → IsCrash c.candidates image → left_since d t image };
 
     /// From this moment on there is no other, whatever the clock says: it may stand at its last value.
-    ghost only_now: { (d : Self) (c : Content) → content d ≡ Some c → (t : ℕ) (image : List (List ℕ)) → moment d ≤ t → left_since d t image → IsCrash c.candidates image };
+    ghost only_now: { (d : Self) (c : Content) → content d ≡ Some c → (t : ℕ) (image : List (List ℕ)) → moment d ≤ t
+        → left_since d t image → IsCrash c.candidates image };
 }
 
 /// A law on disks: a cut of a disk that is settled on an image leaves that image, and no other.
 pub fn settled_law()
     ensures { SettledLaw }
+{}
+
+/// A law on disks: what a disk holds is an image of its sizes, each block a list of so many bytes, and so is whatever
+/// a cut leaves of it.
+pub fn images_law()
+    ensures { ImagesLaw }
 {}

@@ -1,5 +1,5 @@
 // A disk over a file.
-ghost use Rattle.std.specs.Prelude.{◌≡◌, ◌<◌, ◌≤◌, ◌*◌, ◌^◌, ℕ, List, None, Some, IfOk};
+ghost use Rattle.std.specs.Prelude.{◌≡◌, ◌<◌, ◌≤◌, ◌*◌, ◌/◌, ◌^◌, ℕ, List, None, Some, IfOk};
 ghost use Rattle.std.specs.Option.{ForSome};
 ghost use Rattle.bow_units.specs.Causes.{HasCause};
 ghost use Rattle.bow_disk.specs.Disk.{HasBlock, KeepsSizes};
@@ -84,7 +84,8 @@ fn write_at<F: Write + Seek>(file: &mut F, offset: u64, from: &[u8]) -> io::Resu
 
 // As many blocks as stand whole in so many bytes.
 fn whole_blocks(block_size: u32, bytes: u64) -> Geometry
-    ensures { IsOfBlocks block_size result }
+    ensures of { IsOfBlocks block_size result }
+    ensures whole { result.blocks ≡ bytes / block_size }
 {
     Geometry {
         block_size,
@@ -168,10 +169,12 @@ impl<H: Files + Clone + Drop> Disk for FileDisk<H> {
             &mut self.faults,
             opened(&self.rt, &self.path, &mut self.file),
         )?;
-        counted(&mut self.faults, file.sync_all())
+        counted(&mut self.faults, file.sync_data())
     }
 
     ghost shaped = { λ d c is. absurd (nothing c is) };
+
+    ghost cuts_shaped = { λ d c is. absurd (nothing c is) };
 
     ghost counts_now = { λ d c is. absurd (nothing c is) };
 

@@ -1,15 +1,14 @@
 // What a disk in memory keeps of its writes: the image that it was made of, the bytes that it holds now, and each
 // write that had its effect, with the number of its call and of the first later flush that succeeded.
-ghost use Rattle.std.specs.Prelude.{◌≡◌, ◌+◌, ◌*◌, ◌<◌, ◌≤◌, ℕ, List, [], ◌∷◌, ◌++◌, length, map, take, drop, nat_le, None, slice_index_or, vec_len, vec_capacity, IfOk, OnOk};
-ghost use Rattle.std.specs.Option.{ForSome};
-ghost use Rattle.bow_units.specs.Sizes.{IsValid};
+ghost use Rattle.std.specs.Prelude.{◌≡◌, ◌+◌, ◌-◌, ◌*◌, ◌^◌, ◌<◌, ◌≤◌, ℕ, [], ◌∷◌, ◌++◌, length, map, take, drop, nat_le, None, slice_index, slice_index_or, slice_set, vec_len, vec_capacity, IfOk};
+ghost use Rattle.std.specs.List.{All};
 ghost use Rattle.bow_disk.specs.Memory.{latest, flush_change};
 ghost use Rattle.bow_disk.specs.Bytes.{image_of, IsBytesOf};
 ghost use Rattle.bow_disk.specs.Layout.{flush_mark};
-ghost use Rattle.bow_disk.specs.Cuts.{after_choice, picked_candidate};
-ghost use Rattle.bow_disk.specs.Picking.{pick_of, placed, places_from, value_at, block_candidates};
+ghost use Rattle.bow_disk.specs.Cuts.{choices, picked};
+ghost use Rattle.bow_disk.specs.Picking.{candidates_after, next_number, last_number, with_picked};
 
-use crate::cuts::Picker;
+use crate::cuts::{Pick, Picker};
 use bow_units::{Geometry, NoMemory};
 use std::alloc::{AllocError, Global};
 use std::marker::Model;
@@ -30,6 +29,8 @@ pub(crate) struct History {
     marks: Vec<Mark>,
     values: Vec<u8>,
     room: u64,
+    // How many of the marks the last flush left flushed: the first ones
+    settled: usize,
 }
 
 impl Model for History {
@@ -39,9 +40,15 @@ impl Model for History {
 
     ghost Value = { Past };
 
-    ghost view = { λ h. record { geometry = h.geometry; first = image_of h.geometry h.first.items; writes = changes h.geometry.block_size h.marks.items h.values.items; room = h.room } };
+    ghost view = { λ h. record {
+      geometry = h.geometry;
+      first = image_of h.geometry h.first.items;
+      writes = changes h.geometry.block_size h.marks.items h.values.items;
+      room = h.room;
+    } };
 
-    ghost invariant = { λ h. IsLaidOut h.geometry h.first.items h.bytes.items h.marks.items h.values.items h.room (vec_capacity h.marks) (vec_capacity h.values) };
+    ghost invariant = { λ h. IsLaidOut h.geometry h.first.items h.bytes.items h.marks.items h.values.items h.room
+        h.settled (vec_capacity h.marks) (vec_capacity h.values) };
 }
 
 impl History {
@@ -52,9 +59,13 @@ impl History {
         image: Vec<u8>,
         room: u64,
     ) -> Result<History, NoMemory>
-        requires valid { IsValid geometry }
-        requires whole { length image.items ≡ geometry.blocks * geometry.block_size }
-        ensures { IfOk result (λ h. h ≡ record { geometry = geometry; first = image_of geometry image.items; writes = []; room = room }) }
+        requires { length image.items ≡ geometry.blocks * geometry.block_size }
+        ensures { IfOk result (λ h. h ≡ record {
+          geometry = geometry;
+          first = image_of geometry image.items;
+          writes = [];
+          room = room;
+        }) }
     {
         let size = geometry.block_size as usize;
         let Some(total) = (room as usize).checked_mul(size) else {
@@ -67,12 +78,12 @@ impl History {
             marks: Vec::with_capacity(alloc, room as usize)?,
             values: Vec::with_capacity(alloc, total)?,
             room,
+            settled: 0,
         })
     }
 
     pub(crate) fn geometry(&self) -> Geometry
-        ensures is { result ≡ self.now.geometry }
-        ensures valid { IsValid result }
+        ensures { result ≡ self.now.geometry }
     {
         self.geometry
     }
@@ -99,7 +110,10 @@ impl History {
         requires spare { length self.old.writes < self.old.room }
         requires within { at < self.old.geometry.blocks }
         requires whole { length from.now ≡ self.old.geometry.block_size }
-        ensures { self.new ≡ record self.old { writes = self.old.writes ++ record { call = call; block = at; value = from.now; flushed = None } ∷ [] } }
+        ensures { self.new ≡ record self.old {
+          writes = self.old.writes
+              ++ record { call = call; block = at; value = from.now; flushed = None } ∷ [];
+        } }
     {
         let start = at as usize * self.geometry.block_size as usize;
         self.marks.push_reserved(Mark {
@@ -115,7 +129,8 @@ impl History {
     pub(crate) fn flush(&mut self, call: u64)
         ensures { self.new ≡ record self.old { writes = map (flush_change call) self.old.writes } }
     {
-        flush_marks(&mut self.marks, call);
+        flush_marks(&mut self.marks, self.settled, call);
+        self.settled = self.marks.len();
     }
 
     // The image now.
@@ -127,75 +142,82 @@ impl History {
 }
 
 impl History {
-    // Appends the candidate that is picked for a block to a cut image. `places` is room to work in.
-    pub(crate) fn push_pick(
-        &self,
-        block: u64,
-        picker: &mut Picker,
-        places: &mut Vec<Option<usize>>,
-        image: &mut Vec<u8>,
-    ) -> Result<(), NoMemory>
-        requires { block < self.now.geometry.blocks }
-        ensures len { OnOk result (length image.new.items ≡ length image.old.items + self.now.geometry.block_size) }
-        ensures image { OnOk result (image.new.items ≡ image.old.items ++ picked_candidate (pick_of picker.old) (block_candidates block self.now.first self.now.writes)) }
-        ensures after { OnOk result (pick_of picker.new ≡ after_choice (pick_of picker.old) (length (block_candidates block self.now.first self.now.writes))) }
+    // One of the images that a cut may leave. It goes over the writes twice: first for how many candidates each block
+    // has, and then for the values of those that are picked.
+    pub(crate) fn cut(&self, alloc: Global, pick: Pick) -> Result<Vec<u8>, NoMemory>
+        ensures { IfOk result (λ v. IsBytesOf self.now.geometry
+            (picked pick (candidates_after self.now.first self.now.writes)) v.items) }
     {
-        place_candidates(&self.marks, block, places)?;
-        let index = picker.choose(places.len());
+        let blocks = self.geometry.blocks as usize;
         let size = self.geometry.block_size as usize;
-        let start = block as usize * size;
-        let first = &self.first[start..start + size];
-        image.extend_from_slice(value_of(first, &self.values, size, places[index]))?;
-        Ok(())
+        let mut picks = last_candidates(alloc, &self.marks, blocks)?;
+        choose_each(pick, &mut picks);
+        let mut numbers = vec![in alloc; 0usize; blocks]?;
+        let mut image = self.first.to_vec(alloc)?;
+        for write in 0..self.marks.len() {
+            let value = &self.values[write * size..write * size + size];
+            take_in(&mut image, &mut numbers, &picks, self.marks[write], value);
+        }
+        Ok(image)
     }
 }
 
-// The bytes at a candidate's place: none is the block's place in the image at the beginning.
-fn value_of<'a>(first: &'a [u8], values: &'a [u8], size: usize, place: Option<usize>) -> &'a [u8]
-    requires sized { length first.now ≡ size }
-    requires within { ForSome place (λ k. k * size + size ≤ length values.now) }
-    ensures value { result.now ≡ value_at first.now size values.now place }
-    ensures len { length result.now ≡ size }
+// Numbers the candidate that a write makes, of those of its block: the first where it was flushed, else the next.
+fn number(numbers: &mut Vec<usize>, mark: Mark) -> usize
+    requires on { mark.block < length numbers.old.items }
+    requires few { slice_index numbers.old.items mark.block < 2 ^ 64 - 1 }
+    ensures is { result ≡ next_number mark.flushed (slice_index numbers.old.items mark.block) }
+    ensures numbers { numbers.new.items ≡ slice_set numbers.old.items mark.block result }
 {
-    match place {
-        None => first,
-        Some(write) => &values[write * size..write * size + size],
-    }
+    let block = mark.block as usize;
+    let next = if mark.flushed.is_some() {
+        0
+    } else {
+        numbers[block] + 1
+    };
+    numbers[block] = next;
+    next
 }
 
-// Finds where the candidates of a block stand: none for the image at the beginning, else a write's number.
-fn place_candidates(
-    marks: &[Mark],
-    block: u64,
-    places: &mut Vec<Option<usize>>,
-) -> Result<(), AllocError>
-    ensures { OnOk result (places.new.items ≡ places_from block 0 (None ∷ []) marks.now) }
+// The number of the last candidate of each block.
+fn last_candidates(alloc: Global, marks: &[Mark], blocks: usize) -> Result<Vec<usize>, AllocError>
+    requires { All (λ m. m.block < blocks) marks.now }
+    ensures long { IfOk result (λ v. length v.items ≡ blocks) }
+    ensures each { IfOk result (λ v. (b : ℕ) → b < blocks → slice_index v.items b ≡ last_number b 0 marks.now) }
 {
-    places.clear();
-    places.push(None)?;
+    let mut numbers = vec![in alloc; 0usize; blocks]?;
     for write in 0..marks.len() {
-        place(places, block, write, marks[write])?;
+        number(&mut numbers, marks[write]);
     }
-    Ok(())
+    Ok(numbers)
 }
 
-// One more write: a flushed one leaves no other candidate.
-fn place(
-    places: &mut Vec<Option<usize>>,
-    block: u64,
-    write: usize,
-    mark: Mark,
-) -> Result<(), AllocError>
-    ensures { OnOk result (places.new.items ≡ placed block places.old.items write mark) }
+// Picks a candidate of each block, of which the number of the last one stands there.
+fn choose_each(pick: Pick, lasts: &mut Vec<usize>)
+    ensures { lasts.new.items ≡ choices pick lasts.old.items }
 {
-    if mark.block != block {
-        return Ok(());
+    let mut picker = Picker::new(pick);
+    for block in 0..lasts.len() {
+        lasts[block] = picker.choose(lasts[block]);
     }
-    if mark.flushed.is_some() {
-        places.clear();
+}
+
+// Puts the value of a write into a cut image where its candidate is the one that is picked.
+fn take_in(image: &mut Vec<u8>, numbers: &mut Vec<usize>, picks: &[usize], mark: Mark, value: &[u8])
+    requires on { mark.block < length picks.now }
+    requires counted { length numbers.old.items ≡ length picks.now }
+    requires whole { length image.old.items ≡ length picks.now * length value.now }
+    requires few { slice_index numbers.old.items mark.block < 2 ^ 64 - 1 }
+    ensures numbers { numbers.new.items ≡ slice_set numbers.old.items mark.block
+        (next_number mark.flushed (slice_index numbers.old.items mark.block)) }
+    ensures image { image.new.items ≡ with_picked (slice_index picks.now mark.block)
+        (next_number mark.flushed (slice_index numbers.old.items mark.block)) mark.block value.now image.old.items }
+{
+    let next = number(numbers, mark);
+    let block = mark.block as usize;
+    if next == picks[block] {
+        put(image, block * value.len(), value);
     }
-    places.push(Some(write))?;
-    Ok(())
 }
 
 // Appends bytes for which there is room.
@@ -216,9 +238,17 @@ fn put(bytes: &mut Vec<u8>, at: usize, from: &[u8])
     bytes[at..at + from.len()].copy_from_slice(from);
 }
 
-fn flush_marks(marks: &mut Vec<Mark>, call: u64)
-    ensures items { marks.new.items ≡ map (flush_mark call) marks.old.items }
+// Flushes the marks from a place on.
+fn flush_marks(marks: &mut Vec<Mark>, from: usize, call: u64)
+    requires { from ≤ length marks.old.items }
+    ensures items { marks.new.items ≡ take from marks.old.items ++ map (flush_mark call) (drop from marks.old.items) }
     ensures capacity { vec_capacity marks.new ≡ vec_capacity marks.old }
+{
+    flush_each(&mut marks[from..], call);
+}
+
+fn flush_each(marks: &mut [Mark], call: u64)
+    ensures { marks.new ≡ map (flush_mark call) marks.old }
 {
     for mark in marks.iter_mut() {
         *mark = flushed_mark(*mark, call);

@@ -4,12 +4,14 @@
 mod cuts;
 mod device;
 mod failing;
+#[cfg(test)]
+mod file_tests;
 mod files;
 mod history;
 mod memory;
 
 pub use cuts::Pick;
-pub use device::{Disk, settled_law};
+pub use device::{Disk, images_law, settled_law};
 pub use failing::FailMode;
 pub use files::FileDisk;
 pub use memory::MemDisk;

@@ -1,14 +1,13 @@
 // A disk in memory.
-ghost use Rattle.std.specs.Prelude.{◌≡◌, ◌*◌, ◌++◌, ◌∷◌, [], ℕ, List, length, min, is_err, is_some, slice_index_or, Some, Ok, IfOk, OnOk, OnErr};
-ghost use Rattle.bow_units.specs.Sizes.{IsValid};
+ghost use Rattle.std.specs.Prelude.{◌≡◌, ◌*◌, ◌++◌, ◌∷◌, [], ℕ, List, length, min, is_err, is_some, nat_lt, slice_index_or, Some, IfOk, OnOk, OnErr};
 ghost use Rattle.bow_units.specs.Causes.{HasCause};
 ghost use Rattle.bow_disk.specs.Disk.{IsCrash, IsSettledOn, HasBlock, Goes, Same, WriteStep, FlushStep, Holds, TimeGoes, KeepsSizes};
-ghost use Rattle.bow_disk.specs.Memory.{IsFit, LeftSince, content, failure, write_failure, read_by, written_by, flushed_by, fresh};
+ghost use Rattle.bow_disk.specs.Memory.{IsFit, LeftSince, content, failure, write_failure, read_by, written_by, flushed_by, fresh, asked};
 ghost use Rattle.bow_disk.specs.Bytes.{image_of, IsBytesOf};
 ghost use Rattle.bow_disk.specs.Cuts.{picked};
 ghost use Rattle.bow_disk.specs.Layout.{state_of};
 
-use crate::cuts::{Pick, Picker};
+use crate::cuts::Pick;
 use crate::device::Disk;
 use crate::failing::{FailMode, failure_of};
 use crate::history::History;
@@ -28,7 +27,8 @@ pub struct MemDisk {
     failing: Vec<(u64, FailMode)>,
     stop: u64,
     faults: u64,
-    ghost fit: { IsFit (state_of history calls failing.items stop faults) },
+    sizeless: u64,
+    ghost fit: { IsFit (state_of history calls failing.items stop faults sizeless) },
 }
 
 impl Model for MemDisk {
@@ -37,21 +37,23 @@ impl Model for MemDisk {
 
     ghost Value = { Memory };
 
-    ghost view = { λ d. record { state = state_of d.history d.calls d.failing.items d.stop d.faults; fit = d.fit } };
+    ghost view = { λ d. record {
+      state = state_of d.history d.calls d.failing.items d.stop d.faults d.sizeless;
+      fit = d.fit;
+    } };
 }
 
 impl MemDisk {
-    /// A disk of these sizes that holds `image`, which has one byte for each of the device, and is settled on it: a
-    /// cut leaves that image alone. No call was made and none failed. It has room for `writes` writes, for which all
-    /// memory is taken here. `NoMemory` is answered where there is none.
+    /// A disk of these sizes, which may be ones that no device has. It holds `image`, which has one byte for each of
+    /// the disk, and is settled on it: a cut leaves that image alone. No call was made and none failed. It has room for
+    /// `writes` writes, for which all memory is taken here. `NoMemory` is answered where there is none.
     pub fn new(
         alloc: Global,
         geometry: Geometry,
         image: Vec<u8>,
         writes: u64,
     ) -> Result<MemDisk, NoMemory>
-        requires valid { IsValid geometry }
-        requires whole { length image.items ≡ geometry.blocks * geometry.block_size }
+        requires { length image.items ≡ geometry.blocks * geometry.block_size }
         ensures fresh { IfOk result (λ d. d.state ≡ fresh geometry (image_of geometry image.items) writes) }
         ensures settled { IfOk result (λ d. IsSettledOn (image_of geometry image.items) (content d.state)) }
     {
@@ -61,6 +63,7 @@ impl MemDisk {
             failing: Vec::new(alloc),
             stop: u64::MAX,
             faults: 0,
+            sizeless: 0,
         })
     }
 
@@ -68,7 +71,8 @@ impl MemDisk {
     /// is listed more than once the latest listing decides. `NoMemory` is answered where there is none, and then
     /// nothing is listed.
     pub fn fail_at(&mut self, call: u64, mode: FailMode) -> Result<(), NoMemory>
-        ensures ok { OnOk result (self.new.state ≡ record self.old.state { failing = self.old.state.failing ++ (call, mode) ∷ [] }) }
+        ensures ok { OnOk result
+            (self.new.state ≡ record self.old.state { failing = self.old.state.failing ++ (call, mode) ∷ [] }) }
         ensures err { OnErr result (self.new.state ≡ self.old.state) }
     {
         self.failing.push((call, mode))?;
@@ -80,6 +84,13 @@ impl MemDisk {
         ensures { self.new.state ≡ record self.old.state { stop = min self.old.state.stop calls } }
     {
         self.stop = self.stop.min(calls);
+    }
+
+    /// The next `count` questions for the sizes fail, and change nothing but the count of faults.
+    pub fn fail_sizes(&mut self, count: u64)
+        ensures { self.new.state ≡ record self.old.state { sizeless = count } }
+    {
+        self.sizeless = count;
     }
 
     /// How many reads, writes and flushes were made.
@@ -98,17 +109,12 @@ impl MemDisk {
 
     /// One of the images that a cut may leave now, block after block. `NoMemory` is answered where there is none.
     pub fn cut(&self, alloc: Global, pick: Pick) -> Result<Vec<u8>, NoMemory>
-        ensures picked { IfOk result (λ v. IsBytesOf self.now.state.geometry (picked pick (content self.now.state).candidates) v.items) }
-        ensures crash { IfOk result (λ v. IsCrash (content self.now.state).candidates (image_of self.now.state.geometry v.items)) }
+        ensures picked { IfOk result (λ v. IsBytesOf self.now.state.geometry
+            (picked pick (content self.now.state).candidates) v.items) }
+        ensures crash { IfOk result (λ v. IsCrash (content self.now.state).candidates
+            (image_of self.now.state.geometry v.items)) }
     {
-        let mut picker = Picker::new(pick);
-        let mut places = Vec::new(alloc);
-        let mut image = Vec::new(alloc);
-        for block in 0..self.history.geometry().blocks {
-            self.history
-                .push_pick(block, &mut picker, &mut places, &mut image)?;
-        }
-        Ok(image)
+        self.history.cut(alloc, pick)
     }
 
     fn try_read(&mut self, at: u64, into: &mut [u8]) -> Result<(), Failed>
@@ -173,7 +179,7 @@ impl MemDisk {
 impl Disk for MemDisk {
     ghost use Rattle.std.specs.Prelude.{Some};
     ghost use Rattle.bow_disk.specs.Memory.{content, LeftSince};
-    ghost use Rattle.bow_disk.specs.MemoryLaws.{shaped_law, counts_law, only_law};
+    ghost use Rattle.bow_disk.specs.MemoryLaws.{shaped_law, cuts_law, counts_law, only_law};
 
     ghost stated = { λ d. Some d.state.geometry };
 
@@ -186,15 +192,23 @@ impl Disk for MemDisk {
     ghost faults = { λ d. d.state.faults };
 
     fn sizes(&mut self) -> Result<Geometry, Failed>
-        ensures gives { result ≡ Ok self.old.state.geometry }
+        ensures gives { IfOk result (λ g. g ≡ self.old.state.geometry) }
         ensures always { KeepsSizes (Some self.old.state.geometry) (Some self.new.state.geometry) }
         ensures step { Same (content self.old.state) (content self.new.state) }
         ensures count { self.new.state.calls ≡ self.old.state.calls }
         ensures past { (t : ℕ) (c : List (List ℕ)) → LeftSince self.new.state t c → LeftSince self.old.state t c }
         ensures keeps { (t : ℕ) (c : List (List ℕ)) → LeftSince self.old.state t c → LeftSince self.new.state t c }
         ensures cause { HasCause self.old.state.faults self.new.state.faults result }
-        ensures state { self.new.state ≡ self.old.state }
+
+        // It fails exactly where it was told to.
+        ensures fails { is_err result ≡ nat_lt 0 self.old.state.sizeless }
+        ensures state { self.new.state ≡ asked self.old.state }
     {
+        if self.sizeless > 0 {
+            self.sizeless -= 1;
+            self.faults = self.faults.saturating_add(1);
+            return Err(Failed);
+        }
         Ok(self.history.geometry())
     }
 
@@ -203,7 +217,8 @@ impl Disk for MemDisk {
         ensures gives { OnOk result (Holds at into.new (content self.old.state)) }
         ensures always { KeepsSizes (Some self.old.state.geometry) (Some self.new.state.geometry) }
         ensures step { Same (content self.old.state) (content self.new.state) }
-        ensures time { TimeGoes (Some (content self.new.state)) self.old.state.calls self.new.state.calls (LeftSince self.old.state) (LeftSince self.new.state) }
+        ensures time { TimeGoes (Some (content self.new.state)) self.old.state.calls self.new.state.calls
+            (LeftSince self.old.state) (LeftSince self.new.state) }
         ensures cause { HasCause self.old.state.faults self.new.state.faults result }
 
         // It fails exactly there, and then changes nothing but the counts.
@@ -218,7 +233,8 @@ impl Disk for MemDisk {
         requires { HasBlock (Some self.old.state.geometry) at (length from.now) }
         ensures always { KeepsSizes (Some self.old.state.geometry) (Some self.new.state.geometry) }
         ensures step { WriteStep result at from.now (content self.old.state) (content self.new.state) }
-        ensures time { TimeGoes (Some (content self.new.state)) self.old.state.calls self.new.state.calls (LeftSince self.old.state) (LeftSince self.new.state) }
+        ensures time { TimeGoes (Some (content self.new.state)) self.old.state.calls self.new.state.calls
+            (LeftSince self.old.state) (LeftSince self.new.state) }
         ensures cause { HasCause self.old.state.faults self.new.state.faults result }
 
         // It fails exactly there, and then has its effect where it is listed as Kept.
@@ -231,7 +247,8 @@ impl Disk for MemDisk {
     fn flush(&mut self) -> Result<(), Failed>
         ensures always { KeepsSizes (Some self.old.state.geometry) (Some self.new.state.geometry) }
         ensures step { FlushStep result (content self.old.state) (content self.new.state) }
-        ensures time { TimeGoes (Some (content self.new.state)) self.old.state.calls self.new.state.calls (LeftSince self.old.state) (LeftSince self.new.state) }
+        ensures time { TimeGoes (Some (content self.new.state)) self.old.state.calls self.new.state.calls
+            (LeftSince self.old.state) (LeftSince self.new.state) }
         ensures cause { HasCause self.old.state.faults self.new.state.faults result }
 
         // It fails exactly there, and then changes nothing but the counts.
@@ -242,6 +259,8 @@ impl Disk for MemDisk {
     }
 
     ghost shaped = { shaped_law };
+
+    ghost cuts_shaped = { cuts_law };
 
     ghost counts_now = { counts_law };
 

@@ -18,7 +18,7 @@ fn zeros(alloc: Global) -> Result<MemDisk, NoMemory> {
 }
 
 // Whether a write of a block full of one byte succeeds.
-fn fill<D: Disk>(disk: &mut D, at: u64, byte: u8) -> bool {
+pub(crate) fn fill<D: Disk>(disk: &mut D, at: u64, byte: u8) -> bool {
     let block = [byte; SIZE];
     match disk.sizes() {
         Ok(sizes) if at < sizes.blocks && sizes.block_size == 512 => {
@@ -29,7 +29,7 @@ fn fill<D: Disk>(disk: &mut D, at: u64, byte: u8) -> bool {
 }
 
 // The byte that fills a block, where reading it succeeds.
-fn filling<D: Disk>(disk: &mut D, at: u64) -> Option<u8> {
+pub(crate) fn filling<D: Disk>(disk: &mut D, at: u64) -> Option<u8> {
     let mut block = [0u8; SIZE];
     match disk.sizes() {
         Ok(sizes) if at < sizes.blocks && sizes.block_size == 512 => {
@@ -51,7 +51,7 @@ fn filling_of(block: &[u8]) -> Option<u8> {
 }
 
 // The bytes that fill the first four blocks of an image.
-fn fillings(image: &[u8]) -> [Option<u8>; 4] {
+pub(crate) fn fillings(image: &[u8]) -> [Option<u8>; 4] {
     let mut found = [None; 4];
     for (at, block) in image.chunks(SIZE).take(4).enumerate() {
         if at < 4 {
@@ -108,6 +108,27 @@ fn nothing_goes_beyond_the_room_or_the_stop(rt: HostRuntime) -> Result<(), Fail>
     assert_eq!(rt; filling(&mut disk, 0), Some(5));
     assert_eq!(rt; filling(&mut disk, 0), None, "call 9 comes after the last");
     assert_eq!(rt; disk.calls(), 9);
+    Ok(())
+}
+
+#[test]
+fn a_disk_of_any_sizes_may_fail_to_tell_them(rt: HostRuntime) -> Result<(), Fail> {
+    let alloc = rt.alloc();
+    let geometry = Geometry {
+        block_size: 3,
+        blocks: 2,
+    };
+    let mut disk = MemDisk::new(alloc, geometry, b"abcdef".to_vec(alloc)?, 1).expect(
+        &rt,
+        "memory for the disk",
+    );
+    disk.fail_sizes(2);
+    assert!(rt; disk.sizes().is_err());
+    assert!(rt; disk.sizes().is_err());
+    assert_eq!(rt; disk.sizes(), Ok(geometry));
+    assert_eq!(rt; disk.calls(), 0);
+    let image = disk.image(alloc).expect(&rt, "memory for the image");
+    assert_eq!(rt; image.as_slice(), b"abcdef".as_slice());
     Ok(())
 }
 

@@ -7,6 +7,7 @@ use Rattle.std.proofs.lemmas.List.{drop-drop, take-append-drop}
 use Rattle.bow_units.specs.declared.sizes.Geometry.{Geometry}
 use Rattle.bow_units.specs.Sizes.{IsBlockSize, IsValid}
 use Rattle.bow_units.specs.Magics.{HasMagic, log_magic, restoring_magic}
+use Rattle.bow_units.specs.Blocks.{are_zero}
 use Rattle.bow_log.specs.declared.entries.Entry.{Entry}
 use Rattle.bow_log.specs.declared.logs.Magic.{Magic}
 use Rattle.bow_log.specs.declared.logs.Magic.TheVariants.{Log as LogMagic, Restoring}
@@ -15,7 +16,7 @@ use Rattle.bow_log.specs.declared.faults.LogFault.TheVariants.{NoMagic, Version,
 use Rattle.bow_log.specs.Spelling.{Fields, Fits, magic_number, header, entry_text, spell}
 use Rattle.bow_log.specs.Generations.{room}
 use Rattle.bow_log.specs.Rules.{is_current, keeps_rules, entry_fault, IsLog}
-use Rattle.bow_log.specs.Faults.{number_at, entry_at, entries_at, count_in, begins_with, are_zero, parts_of, fault_of}
+use Rattle.bow_log.specs.Faults.{number_at, entry_at, entries_at, count_in, begins_with, parts_of, fault_of}
 use Rattle.bow_log.proofs.Numbers.{IsBytes, back_2, back_4, back_8, again_4}
 use Rattle.bow_log.proofs.Spelled.{Reads, reads, either_magic, magic_again, parts_again}
 

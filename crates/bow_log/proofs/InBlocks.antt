@@ -1,6 +1,6 @@
 -- Sectors and blocks.
-use Rattle.std.proofs.Common.{◌≡◌, ℕ, zero, suc, ◌+◌, ◌*◌, ◌/◌, ◌%◌, ◌^◌, ◌<◌, ◌≤◌, Bool, true, false, List, [], ◌∷◌, length, map, Option, Some, None, refl, sym, ap, ap₂, subst, ◌∙◌, arith, inl, inr}
-use Rattle.std.specs.Prelude.{◌==◌, ◌&&◌, ◌||◌, if◌then◌else◌, is_none, nat_lt, nat_le, ◌⊎◌}
+use Rattle.std.proofs.Common.{◌≡◌, ℕ, zero, suc, ◌+◌, ◌*◌, ◌/◌, ◌%◌, ◌^◌, ◌<◌, ◌≤◌, Bool, true, false, List, [], ◌∷◌, ◌++◌, length, map, Option, Some, None, refl, sym, ap, ap₂, subst, ◌∙◌, arith, inl, inr, length-append}
+use Rattle.std.specs.Prelude.{◌==◌, ◌&&◌, ◌||◌, if◌then◌else◌, not, is_none, nat_lt, nat_le, ◌⊎◌}
 use Rattle.std.specs.List.{AllByRecursion as Each}
 use Rattle.std.proofs.Math.Nat.{mul-div_cancel, mul-mod_left}
 use Rattle.std.proofs.lemmas.Nat.{div-add-mod', mul-lt}
@@ -11,13 +11,15 @@ use Rattle.bow_log.specs.declared.entries.Entry.{Entry}
 use Rattle.bow_log.specs.declared.logs.Magic.{Magic}
 use Rattle.bow_log.specs.declared.logs.Magic.TheVariants.{Log as LogMagic, Restoring}
 use Rattle.bow_log.specs.declared.faults.LogFault.{LogFault}
-use Rattle.bow_log.specs.declared.faults.LogFault.TheVariants.{Entry as BadEntry}
+use Rattle.bow_log.specs.declared.faults.LogFault.TheVariants.{NoMagic, Entry as BadEntry}
 use Rattle.bow_log.specs.Spelling.{Fields, Fits, EntryFits, spell}
-use Rattle.bow_log.specs.Generations.{Backup, Generation, sectors, backup_of, entry_of, is_restoring, magic_of, generation_of, fields_of, IsBackup, StartsWith0, IsGeneration, GenerationFits}
+use Rattle.bow_log.specs.Generations.{Backup, Generation, sectors, backup_of, entry_of, is_restoring, magic_of, generation_of, fields_of, IsBackup, IsEntry, StartsWith0, IsGeneration, GenerationFits, room}
 use Rattle.bow_log.specs.Rules.{begins_block, is_inside, are_apart, has_own_source, is_backup, keeps_rules, entry_fault, IsLog}
-use Rattle.bow_log.specs.Faults.{fault_of, parts_of}
+use Rattle.bow_log.specs.Faults.{begins_with, count_in, entries_at, fault_of, parts_of}
 use Rattle.bow_log.specs.Spelled.{generation_in}
-use Rattle.bow_log.proofs.Clean.{sized, both, either, number_is, clean, log_is, only_reading, room_fits}
+use Rattle.bow_log.specs.Laws.{BlockFits, NoMagicIsNone, SpelledHasMagic, PlainSpellsNone}
+use Rattle.bow_log.proofs.Clean.{sized, both, either, number_is, clean, log_is, only_reading, room_fits, magic_tested, no_magic_is, spelled}
+use Rattle.bow_log.proofs.Numbers.{IsBytes, below_4, bytes_at}
 
 -- ---- tests
 
@@ -227,6 +229,37 @@ in_sectors g x valid h =
       λ i. record { restoring = restoring_back x.restoring i; sequence = x.sequence; current = back i; entries = backups_back g valid x.entries i },
     )
 
+-- ---- one entry more
+
+-- the same, of an entry that is not the first
+own_after : (index : ℕ) (b : Backup) → 0 < index → 0 < b.source → has_own_source index b ≡ true
+own_after index b later above = grind arith
+
+keeps_after : (g : Geometry) → IsValid g → (index : ℕ) (e : Entry) → 0 < index → IsEntry g e → 0 < (backup_of g e).source → keeps_rules g index e ≡ true
+keeps_after g valid index e later is above =
+    let b = backup_of g e in
+    subst (λ x. keeps_rules g index x ≡ true) is.whole (kept_test g valid index b is.backup (own_after index b later above))
+
+one_more : (g : Geometry) (index : ℕ) (es : List Entry) (e : Entry) → entry_fault g index es ≡ None → ((k : ℕ) → k ≡ index + length es → keeps_rules g k e ≡ true)
+    → entry_fault g index (es ++ e ∷ []) ≡ None
+one_more g index [] e good last = keeps_on (keeps_rules g index e) (BadEntry index) None (last index (omega arith)) refl
+one_more g index (f ∷ es) e good last =
+    let p = goes_on (keeps_rules g index f) (BadEntry index) (entry_fault g (index + 1) es) good in
+    keeps_on (keeps_rules g index f) (BadEntry index) _ p.0 (one_more g (index + 1) es e p.1 (λ k is. last k (omega (arith, is))))
+
+-- a log with one more entry
+pub entry_added : (g : Geometry) (log : Fields) (e : Entry) (entries : List Entry) → IsLog g log → length log.entries < room g.block_size → IsEntry g e
+    → 0 < (backup_of g e).source → entries ≡ log.entries ++ e ∷ [] → IsLog g (record log { entries = entries })
+entry_added g log e entries v few is above so =
+    subst (λ (es : List Entry). IsLog g (record log { entries = es })) (sym so) (record {
+      device = v.device;
+      block_size = v.block_size;
+      some = omega (arith, length-append log.entries (e ∷ []));
+      few = omega (arith, length-append log.entries (e ∷ []), few);
+      sector0 = v.sector0;
+      entries = one_more g 0 log.entries e v.entries (λ k at. keeps_after g v.device k e (omega (arith, at, v.some)) is above);
+    })
+
 -- ---- in a block
 
 pub found : (o : Option LogFault) (v x : Generation) → (if is_none o then Some v else None) ≡ Some x → (o ≡ None) × (v ≡ x)
@@ -269,6 +302,57 @@ fits g x valid h f =
       sector0 = omega (arith, mul-lt x.current (sectors g) 1048577 9 current small);
       entries = entries_fit g valid x.entries h.each f.sums;
     }
+
+-- ---- with a magic, or without
+
+first_of : (b : Bool) (rest : Option LogFault) → b ≡ false → (if not b then Some NoMagic else rest) ≡ Some NoMagic
+first_of true rest e = absurd cc
+first_of false rest e = refl
+
+no_magic_from : (g : Geometry) (block : List ℕ) → (begins_with LogMagic block || begins_with Restoring block) ≡ false → fault_of g block ≡ Some NoMagic
+unfolding fault_of
+no_magic_from g block e = first_of (begins_with LogMagic block || begins_with Restoring block) _ e
+
+either_way : (b : Bool) → (b ≡ true) ⊎ (b ≡ false)
+either_way true = inl refl
+either_way false = inr refl
+
+pub no_magic_is_none : NoMagicIsNone
+no_magic_is_none g block valid is =
+    let s = sized g.block_size valid.size in
+    let tested = magic_tested block (bytes_at g.block_size block is) (omega (arith, is.long, s.least)) in (
+      λ e. (no_magic_is g block NoMagic (bytes_at g.block_size block is) (omega (arith, is.long, s.least)) e).0 refl,
+      λ none. elim (either_way (begins_with LogMagic block || begins_with Restoring block)) [ inl t ↦ absurd (none (tested.1 t)) | inr f ↦ no_magic_from g block f ],
+    )
+
+pub spelled_has_magic : SpelledHasMagic
+spelled_has_magic g block x valid is e =
+    let s = sized g.block_size valid.size in
+    let p = found (fault_of g block) (generation_of g (parts_of block)) x e in
+    (magic_tested block (bytes_at g.block_size block is) (omega (arith, is.long, s.least))).1 (clean g block p.0).magic
+
+pub plain_spells_none : PlainSpellsNone
+plain_spells_none g block valid is none =
+    let fault : fault_of g block ≡ Some NoMagic = (no_magic_is_none g block valid is).1 none in
+    ap (λ (o : Option LogFault). if is_none o then Some (generation_of g (parts_of block)) else None) fault
+
+sums_fit : (g : Geometry) (n at : ℕ) (block : List ℕ) → IsBytes block → at + 24 * n ≤ length block → Each (λ b. b.sum < 2 ^ 32) (map (backup_of g) (entries_at n at block))
+sums_fit g zero at block bytes long = tt
+sums_fit g (suc n) at block bytes long = (below_4 (at + 20) block bytes (omega arith), sums_fit g n (at + 24) block bytes (omega arith))
+
+pub block_fits : BlockFits
+block_fits g block x valid is e =
+    let s = sized g.block_size valid.size in
+    let bytes = bytes_at g.block_size block is in
+    let p = found (fault_of g block) (generation_of g (parts_of block)) x e in
+    let k = clean g block p.0 in
+    let room = room_fits g valid in
+    let fit : GenerationFits (generation_of g (parts_of block)) = record {
+      sequence = below_4 16 block bytes (omega (arith, is.long, s.least));
+      sums = sums_fit g (count_in block) 28 block bytes (omega (arith, room.0, k.few, is.long));
+    } in
+    let back : spell (fields_of g (generation_of g (parts_of block))) ≡ block = ap spell (in_blocks g (parts_of block) (log_is g block valid k)).1 ∙ sym (spelled g block valid bytes is.long k) in
+    (subst GenerationFits p.1 fit, subst (λ y. spell (fields_of g y) ≡ block) p.1 back)
 
 pub block_takes : (g : Geometry) (x : Generation) → IsValid g → IsGeneration g x → GenerationFits x → generation_in g (spell (fields_of g x)) ≡ Some x
 block_takes g x valid h f =

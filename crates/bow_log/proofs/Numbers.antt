@@ -1,9 +1,11 @@
 -- Numbers in little-endian bytes.
-use Rattle.std.proofs.Common.{◌≡◌, ℕ, ◌+◌, ◌^◌, ◌<◌, ◌≤◌, List, ◌++◌, length, get_or, take, drop, refl, sym, ap, ◌∙◌, arith, inl, inr, length-drop}
+use Rattle.std.proofs.Common.{◌≡◌, ℕ, ◌+◌, ◌^◌, ◌<◌, ◌≤◌, List, [], ◌∷◌, ◌++◌, length, get_or, take, drop, refl, sym, ap, ◌∙◌, arith, inl, inr, length-drop}
 use Rattle.std.specs.Int.{w16, w32, w64, from_le_bytes, to_le_bytes}
 use Rattle.std.proofs.lemmas.Bool.{cases_lt}
 use Rattle.std.proofs.lemmas.List.{drop_at, drop-drop, length-take, get_or-drop, get_or-take, get_or_past}
 use Rattle.std.proofs.lemmas.Nat.{le_bytes_2, le_bytes_4, le_bytes_8, from_le_bytes-to_le_bytes_4, from_le_bytes-to_le_bytes_8}
+use Rattle.bow_units.specs.Blocks.{IsBlock}
+use Rattle.bow_units.proofs.Bytes.{byte_at}
 use Rattle.bow_log.specs.Faults.{number_at}
 
 abbrev pub IsBytes : List ℕ → Type 0
@@ -37,6 +39,23 @@ back_4 at block h long = le_bytes_4 (take 4 (drop at block)) _ (part_length 4 at
 pub back_8 : (at : ℕ) (block : List ℕ) → IsBytes block → at + 8 ≤ length block → to_le_bytes w64 (number_at w64 at block) ≡ take 8 (drop at block)
 unfolding number_at
 back_8 at block h long = le_bytes_8 (take 8 (drop at block)) _ (part_length 8 at block long) (part_bytes 8 at block h) refl
+
+-- and fits its place
+small_4 : (bytes : List ℕ) → IsBytes bytes → length bytes ≡ 4 → from_le_bytes w32 bytes < 2 ^ 32
+small_4 (a ∷ b ∷ c ∷ d ∷ []) h is = omega (arith, h 0, h 1, h 2, h 3)
+small_4 [] h is = absurd (omega arith)
+small_4 (a ∷ []) h is = absurd (omega arith)
+small_4 (a ∷ b ∷ []) h is = absurd (omega arith)
+small_4 (a ∷ b ∷ c ∷ []) h is = absurd (omega arith)
+small_4 (a ∷ b ∷ c ∷ d ∷ e ∷ rest) h is = absurd (omega arith)
+
+pub below_4 : (at : ℕ) (block : List ℕ) → IsBytes block → at + 4 ≤ length block → number_at w32 at block < 2 ^ 32
+unfolding number_at
+below_4 at block h long = small_4 (take 4 (drop at block)) (part_bytes 4 at block h) (part_length 4 at block long)
+
+-- the bytes of a block, by their places
+pub bytes_at : (size : ℕ) (block : List ℕ) → IsBlock size block → IsBytes block
+bytes_at size block is i = byte_at block is.are_bytes i
 
 -- what was spelled is read again
 pub again_4 : (at n : ℕ) (block rest : List ℕ) → drop at block ≡ to_le_bytes w32 n ++ rest → n < 2 ^ 32 → number_at w32 at block ≡ n

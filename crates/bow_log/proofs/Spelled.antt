@@ -4,11 +4,12 @@ use Rattle.std.specs.Prelude.{flat_map, ◌==◌, ◌||◌, if◌then◌else◌}
 use Rattle.std.specs.List.{AllByRecursion as Each}
 use Rattle.std.specs.Int.{w16, w32, w64}
 use Rattle.std.proofs.lemmas.List.{drop_at}
+use Rattle.bow_units.specs.Blocks.{are_zero}
 use Rattle.bow_log.specs.declared.entries.Entry.{Entry}
 use Rattle.bow_log.specs.declared.logs.Magic.{Magic}
 use Rattle.bow_log.specs.declared.logs.Magic.TheVariants.{Log as LogMagic, Restoring}
 use Rattle.bow_log.specs.Spelling.{Fields, Fits, EntryFits, magic_number, header, entry_text, spell}
-use Rattle.bow_log.specs.Faults.{number_at, entry_at, entries_at, count_in, are_zero, parts_of}
+use Rattle.bow_log.specs.Faults.{number_at, entry_at, entries_at, count_in, parts_of}
 use Rattle.bow_log.proofs.Numbers.{again_4, again_8, past}
 
 entry_again : (e : Entry) (at : ℕ) (front more : List ℕ) → length front ≡ at → EntryFits e → entry_at at (front ++ (entry_text e ++ more)) ≡ e

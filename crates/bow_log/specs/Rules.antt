@@ -32,11 +32,13 @@ has_own_source index b = if index == 0 then b.source == 0 && b.count == 1 else n
 -- what holds of the blocks of the entry of this index
 abbrev pub is_backup : Geometry → ℕ → Backup → Bool
 is_backup g index b =
-    nat_lt 0 b.count && is_inside g b.source b.count && is_inside g b.dest b.count && are_apart b.source b.dest b.count && has_own_source index b && nat_lt 0 b.dest
+    nat_lt 0 b.count && is_inside g b.source b.count && is_inside g b.dest b.count
+    && are_apart b.source b.dest b.count && has_own_source index b && nat_lt 0 b.dest
 
 -- the entry of this index keeps the rules: it is of whole blocks too
 abbrev pub keeps_rules : Geometry → ℕ → Entry → Bool
-keeps_rules g index e = begins_block g e.source && begins_block g e.dest && (e.size % g.block_size == 0) && is_backup g index (backup_of g e)
+keeps_rules g index e = begins_block g e.source && begins_block g e.dest && (e.size % g.block_size == 0)
+    && is_backup g index (backup_of g e)
 
 -- the lowest entry, counted from this index on, that breaks a rule
 abbrev pub entry_fault : Geometry → ℕ → List Entry → Option LogFault
@@ -54,4 +56,10 @@ pub record IsLog (g : Geometry) (log : Fields) : Type 0 where
 
 -- the first log of a checkpoint, with the current block 0 at this block
 abbrev pub first_log : Geometry → ℕ → Entry → Fields
-first_log g current entry = record { magic = LogMagic; block_size = g.block_size; sequence = 0; sector0 = current * sectors g; entries = entry ∷ [] }
+first_log g current entry = record {
+  magic = LogMagic;
+  block_size = g.block_size;
+  sequence = 0;
+  sector0 = current * sectors g;
+  entries = entry ∷ [];
+}

@@ -22,7 +22,8 @@ magic_number Restoring = 0x00424F57
 -- the 28 bytes before the entries: 0x0100 is the version, and 28 their own number
 abbrev pub header : Fields → List ℕ
 header log =
-    to_le_bytes w32 (magic_number log.magic) ++ to_le_bytes w16 0x0100 ++ to_le_bytes w16 28 ++ to_le_bytes w32 log.block_size
+    to_le_bytes w32 (magic_number log.magic) ++ to_le_bytes w16 0x0100 ++ to_le_bytes w16 28
+    ++ to_le_bytes w32 log.block_size
     ++ to_le_bytes w32 (length log.entries) ++ to_le_bytes w32 log.sequence ++ to_le_bytes w64 log.sector0
 
 -- the 24 bytes of an entry

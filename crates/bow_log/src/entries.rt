@@ -2,7 +2,7 @@
 ghost use Rattle.std.specs.Prelude.{◌≡◌, ◌+◌, ◌^◌, ◌<◌};
 ghost use Rattle.bow_units.specs.Sizes.{IsValid};
 ghost use Rattle.bow_log.specs.Rules.{keeps_rules, are_apart, has_own_source};
-ghost use Rattle.bow_log.specs.Generations.{backup_of};
+ghost use Rattle.bow_log.specs.Generations.{Backup, IsBackup, IsEntry, backup_of, entry_of};
 
 use crate::sectors::{begins_block, block_of};
 use bow_units::{Extent, Geometry};
@@ -31,6 +31,48 @@ fn apart(source: Extent, dest: Extent) -> bool
 }
 
 impl Entry {
+    /// The entry of a backup in blocks: `count` of them from `source` on, whose content was put at those from `dest` on
+    /// and has this sum.
+    pub fn of_backup(geometry: Geometry, source: u64, dest: u64, count: u32, sum: u32) -> Entry
+        requires valid { IsValid geometry }
+        requires backup { IsBackup geometry (record { source = source; dest = dest; count = count; sum = sum }) }
+        ensures entry { IsEntry geometry result }
+        ensures backup { backup_of geometry result ≡ record { source = source; dest = dest; count = count; sum = sum } }
+        ensures spelled { result
+            ≡ entry_of geometry (record { source = source; dest = dest; count = count; sum = sum }) }
+    {
+        Entry {
+            source: source * geometry.sectors(),
+            dest: dest * geometry.sectors(),
+            size: count * geometry.block_size,
+            sum,
+        }
+    }
+
+    /// The blocks that it backed up.
+    pub fn source_blocks(&self, geometry: Geometry) -> Extent
+        requires { IsValid geometry }
+        ensures first { result.first ≡ (backup_of geometry self.now).source }
+        ensures count { result.count ≡ (backup_of geometry self.now).count }
+    {
+        Extent {
+            first: block_of(self.source, geometry),
+            count: (self.size / geometry.block_size) as u64,
+        }
+    }
+
+    /// The blocks where their content was put.
+    pub fn dest_blocks(&self, geometry: Geometry) -> Extent
+        requires { IsValid geometry }
+        ensures first { result.first ≡ (backup_of geometry self.now).dest }
+        ensures count { result.count ≡ (backup_of geometry self.now).count }
+    {
+        Extent {
+            first: block_of(self.dest, geometry),
+            count: (self.size / geometry.block_size) as u64,
+        }
+    }
+
     /// Whether the entry keeps the rules, as the one of this index in a log.
     pub(crate) fn keeps_rules(&self, index: u32, geometry: Geometry) -> bool
         requires { IsValid geometry }
@@ -42,16 +84,9 @@ impl Entry {
         {
             return false;
         }
-        let count = (self.size / geometry.block_size) as u64;
-        let source = Extent {
-            first: block_of(self.source, geometry),
-            count,
-        };
-        let dest = Extent {
-            first: block_of(self.dest, geometry),
-            count,
-        };
-        if count == 0
+        let source = self.source_blocks(geometry);
+        let dest = self.dest_blocks(geometry);
+        if source.count == 0
             || !source.inside(geometry)
             || !dest.inside(geometry)
             || !apart(source, dest)
@@ -60,7 +95,7 @@ impl Entry {
             return false;
         }
         if index == 0 {
-            source.first == 0 && count == 1
+            source.first == 0 && source.count == 1
         } else {
             source.first > 0
         }

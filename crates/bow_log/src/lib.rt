@@ -19,6 +19,7 @@
 mod entries;
 mod faults;
 mod fields;
+mod headers;
 mod laws;
 mod logs;
 mod reading;
@@ -29,7 +30,8 @@ mod writing;
 
 pub use entries::Entry;
 pub use faults::LogFault;
-pub use laws::{generation_law, spelling_law};
+pub use headers::{begins_restoring, read_current};
+pub use laws::{generation_law, magic_law, spelling_law};
 pub use logs::{Log, Magic};
 pub use reading::read_log;
 pub use sectors::capacity;

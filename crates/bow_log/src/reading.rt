@@ -1,32 +1,20 @@
 // A log read from its block.
-ghost use Rattle.std.specs.Prelude.{◌≡◌, ◌+◌, ◌*◌, ◌≤◌, ◌||◌, ◌↔◌, IsOk, OnOk, OnErr, MatchResult, Some, None, length};
+ghost use Rattle.std.specs.Prelude.{◌≡◌, ◌+◌, ◌*◌, ◌≤◌, ◌↔◌, IsOk, OnOk, OnErr, MatchResult, Some, None, length};
 ghost use Rattle.bow_units.specs.Sizes.{IsValid};
-ghost use Rattle.bow_log.specs.Faults.{are_zero, begins_with, count_in, parts_of, entries_at, fault_of, log_of};
+ghost use Rattle.bow_log.specs.Faults.{count_in, parts_of, entries_at, fault_of, log_of};
 ghost use Rattle.bow_units.specs.Magics.{HasMagic};
 ghost use Rattle.bow_log.specs.declared.faults.LogFault.TheVariants.{NoMagic};
-ghost use Rattle.bow_log.specs.declared.logs.Magic.TheVariants.{Log as LogMagic, Restoring};
 ghost use Rattle.bow_log.specs.Rules.{entry_fault, IsLog};
 ghost use Rattle.bow_log.specs.Spelling.{Fields, Fits, spell};
 
 use crate::entries::Entry;
 use crate::faults::LogFault;
-use crate::fields::{entry_at, u16_at, u32_at, u64_at};
+use crate::fields::{entry_at, u32_at, u64_at};
+use crate::headers::{begins_restoring, begins_with_magic, sizes_fault};
 use crate::logs::{Log, Magic};
-use crate::sectors::{capacity, is_current};
-use crate::writing::{HEADER_SIZE, RESTORING_MAGIC, VERSION};
+use crate::sectors::is_current;
 use arrayvec::ArrayVec;
-use bow_units::{Geometry, has_magic};
-
-fn are_zero(bytes: &[u8]) -> bool
-    ensures { result ≡ are_zero bytes.now }
-{
-    for byte in bytes {
-        if *byte != 0 {
-            return false;
-        }
-    }
-    true
-}
+use bow_units::{Geometry, all_zero};
 
 fn entry_fault_in(block: &[u8], count: u32, geometry: Geometry) -> Option<LogFault>
     requires device { IsValid geometry }
@@ -42,13 +30,6 @@ fn entry_fault_in(block: &[u8], count: u32, geometry: Geometry) -> Option<LogFau
     None
 }
 
-fn begins_with_magic(block: &[u8]) -> bool
-    requires { 4 ≤ length block.now }
-    ensures { result ≡ (begins_with LogMagic block.now || begins_with Restoring block.now) }
-{
-    has_magic(block)
-}
-
 #[tactic(auto, unfolding(crate::specs::Faults::fault_of))]
 fn fault(block: &[u8], geometry: Geometry) -> Option<LogFault>
     requires device { IsValid geometry }
@@ -58,20 +39,11 @@ fn fault(block: &[u8], geometry: Geometry) -> Option<LogFault>
     if !begins_with_magic(block) {
         return Some(LogFault::NoMagic);
     }
-    if u16_at(block, 4) != VERSION {
-        return Some(LogFault::Version);
-    }
-    if u16_at(block, 6) != HEADER_SIZE {
-        return Some(LogFault::HeaderSize);
-    }
-    if u32_at(block, 8) != geometry.block_size {
-        return Some(LogFault::BlockSize);
+    if let Some(fault) = sizes_fault(block, geometry) {
+        return Some(fault);
     }
     let count = u32_at(block, 12);
-    if count == 0 || count > capacity(geometry.block_size) {
-        return Some(LogFault::Count);
-    }
-    if !are_zero(&block[28 + 24 * count as usize..]) {
+    if !all_zero(&block[28 + 24 * count as usize..]) {
         return Some(LogFault::Tail);
     }
     if !is_current(u64_at(block, 20), geometry) {
@@ -96,7 +68,7 @@ fn read_parts(block: &[u8], into: &mut Log)
     requires few { count_in block.now ≤ 169 }
     ensures { into.new ≡ parts_of block.now }
 {
-    into.magic = if u32_at(block, 0) == RESTORING_MAGIC {
+    into.magic = if begins_restoring(block) {
         Magic::Restoring
     } else {
         Magic::Log
@@ -113,12 +85,14 @@ pub fn read_log(block: &[u8], geometry: Geometry, into: &mut Log) -> Result<(), 
     requires device { IsValid geometry }
     requires one { length block.now ≡ geometry.block_size }
     // The first fault, or none.
-    ensures exact { MatchResult result (λ _. fault_of geometry block.now ≡ None) (λ fault. fault_of geometry block.now ≡ Some fault) }
+    ensures exact { MatchResult result (λ _. fault_of geometry block.now ≡ None)
+        (λ fault. fault_of geometry block.now ≡ Some fault) }
     // The log of the block, which is valid, and the block is its spelling.
     ensures read { OnOk result (log_of geometry block.now ≡ Some into.new) }
     ensures found { OnOk result (IsLog geometry into.new × (block.now ≡ spell into.new)) }
     // Each log that the block spells is read, so there is one at most.
-    ensures only { (log : Fields) → Fits log → IsLog geometry log → block.now ≡ spell log → IsOk result × (into.new ≡ log) }
+    ensures only { (log : Fields) → Fits log → IsLog geometry log → block.now ≡ spell log
+        → IsOk result × (into.new ≡ log) }
     // Neither magic is exactly what makes the first fault of all.
     ensures plain { MatchResult result (λ _. HasMagic block.now) (λ fault. (fault ≡ NoMagic) ↔ ¬ HasMagic block.now) }
     ensures kept { OnErr result (into.new ≡ into.old) }

@@ -1,5 +1,5 @@
 // Sectors of 512 bytes, and the blocks in which they lie.
-ghost use Rattle.std.specs.Prelude.{◌≡◌, ◌<◌, ◌/◌};
+ghost use Rattle.std.specs.Prelude.{◌≡◌, ◌/◌};
 ghost use Rattle.bow_units.specs.Sizes.{IsValid};
 ghost use Rattle.bow_log.specs.Generations.{room, sectors};
 ghost use Rattle.bow_log.specs.Rules.{begins_block, is_current};
@@ -14,26 +14,18 @@ pub fn capacity(block_size: u32) -> u32
     block_size.saturating_sub(28) / 24
 }
 
-pub(crate) fn sectors(geometry: Geometry) -> u64
-    requires { IsValid geometry }
-    ensures value { result ≡ sectors geometry }
-    ensures some { 0 < result }
-{
-    geometry.block_size as u64 / 512
-}
-
 pub(crate) fn begins_block(sector: u64, geometry: Geometry) -> bool
     requires { IsValid geometry }
     ensures { result ≡ begins_block geometry sector }
 {
-    sector % sectors(geometry) == 0
+    sector % geometry.sectors() == 0
 }
 
 pub(crate) fn block_of(sector: u64, geometry: Geometry) -> u64
     requires { IsValid geometry }
     ensures { result ≡ sector / sectors geometry }
 {
-    sector / sectors(geometry)
+    sector / geometry.sectors()
 }
 
 /// Whether the current block 0 may lie at this sector.

@@ -5,11 +5,7 @@ ghost use Rattle.bow_log.specs.Spelling.{entry_text, header, spell};
 
 use crate::entries::Entry;
 use crate::logs::{Log, Magic};
-use bow_units::Geometry;
-
-pub(crate) const LOG_MAGIC: u32 = 0x0057_4F42;
-
-pub(crate) const RESTORING_MAGIC: u32 = 0x0042_4F57;
+use bow_units::{Geometry, LOG_MAGIC, RESTORING_MAGIC};
 
 pub(crate) const VERSION: u16 = 0x0100;
 

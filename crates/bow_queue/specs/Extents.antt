@@ -16,4 +16,5 @@ overlaps one other = nat_lt (max one.first other.first) (min (one.first + one.co
 
 -- two extents overlap exactly where both cover some block
 abbrev pub OverlapsShareABlock : Type 0
-OverlapsShareABlock = (one other : Extent) → IsTrue (overlaps one other) ↔ ((block : ℕ) × IsTrue (covers one block) × IsTrue (covers other block))
+OverlapsShareABlock = (one other : Extent) → IsTrue (overlaps one other)
+    ↔ ((block : ℕ) × IsTrue (covers one block) × IsTrue (covers other block))

@@ -1,34 +1,50 @@
 -- How the queue's fields are seen.
-use Rattle.std.specs.Prelude.{◌≡◌, ℕ, ◌<◌, ◌≤◌, ◌^◌, Bool, List, map, length, IsSome, unwrap_or}
-use Rattle.std.specs.List.{All, AllPairs}
+use Rattle.std.specs.Prelude.{◌≡◌, ℕ, ◌<◌, ◌≤◌, ◌^◌, Bool, Option, Some, List, map, length, unwrap_or}
+use Rattle.std.specs.List.{All, AllPairs, Contains}
+use Rattle.std.specs.Option.{option_map}
 use Rattle.slab.specs.Slab.{Slab, get, slab_len}
 use Rattle.bow_units.specs.declared.requests.Op.{Op}
 use Rattle.bow_units.specs.declared.requests.Op.TheVariants.{Flush}
 use Rattle.bow_queue.specs.declared.tickets.Ticket.{Ticket}
+use Rattle.bow_queue.specs.declared.requests.Request.{Request}
 use Rattle.bow_queue.specs.declared.wanted.Wanted.{Wanted}
 use Rattle.bow_queue.specs.declared.wanted.Wanted.TheVariants.{WriteOf, EarlierWrite, Command}
-use Rattle.bow_queue.specs.Requests.{Waiting, Precedes, writes_block, is_earlier_overlap, is_command}
+use Rattle.bow_queue.specs.Requests.{Precedes, fresh_request, writes_block, is_earlier_overlap, is_command}
 
--- the request of a ticket, whose operation lies at the ticket's key
-abbrev pub request_at : Slab Op → Ticket → Waiting
-request_at ops ticket = record { ticket = ticket; op = unwrap_or (get ops ticket.key) Flush }
+-- the request of a ticket, which lies at the ticket's key
+abbrev pub request_at : Slab Request → Ticket → Request
+request_at slots ticket = unwrap_or (get slots ticket.key) (fresh_request ticket Flush)
 
-abbrev pub requests_at : Slab Op → List Ticket → List Waiting
-requests_at ops tickets = map (request_at ops) tickets
+-- the requests of these tickets
+abbrev pub requests_at : Slab Request → List Ticket → List Request
+requests_at slots tickets = map (request_at slots) tickets
 
--- each ticket has its operation in the slab, which holds no other, and the slab has room for as many as there are places
-pub record IsSound (tickets : List Ticket) (ops : Slab Op) (places admitted : ℕ) : Type 0 where
+-- the ticket of what lies at a key
+abbrev pub ticket_at : Slab Request → ℕ → Option Ticket
+ticket_at slots key = option_map (λ r. r.ticket) (get slots key)
+
+-- each of these tickets has its request in the slab
+abbrev pub AreStored : Slab Request → List Ticket → Type 0
+AreStored slots tickets = All (λ t. ticket_at slots t.key ≡ Some t) tickets
+
+-- what lies at a key has it in its ticket, which is one of these
+abbrev pub HoldsNoOther : Slab Request → List Ticket → Type 0
+HoldsNoOther slots tickets = (key : ℕ) (t : Ticket) → ticket_at slots key ≡ Some t → (t.key ≡ key) × Contains tickets t
+
+-- each ticket has its request in the slab, which holds no other, and the slab has room for as many as there are places
+pub record IsSound (tickets : List Ticket) (slots : Slab Request) (places admitted : ℕ) : Type 0 where
   pub apart : AllPairs Precedes tickets
   pub given_out : All (λ t. t.serial < admitted) tickets
-  pub stored : All (λ t. IsSome (get ops t.key)) tickets
-  pub as_many : slab_len ops ≡ length tickets
+  pub stored : AreStored slots tickets
+  pub no_other : HoldsNoOther slots tickets
+  pub as_many : slab_len slots ≡ length tickets
   pub fit : length tickets ≤ places
   pub few : places ≤ 16
-  pub room : places ≤ ops.capacity
-  pub keys_fit : ops.capacity < 2 ^ 32
+  pub room : places ≤ slots.capacity
+  pub keys_fit : slots.capacity < 2 ^ 32
 
 -- what is looked for is this request
-abbrev pub is_wanted : Wanted → Waiting → Bool
-is_wanted (WriteOf block) w = writes_block block w
-is_wanted (EarlierWrite extent serial) w = is_earlier_overlap serial extent w
-is_wanted Command w = is_command w.op
+abbrev pub is_wanted : Wanted → Request → Bool
+is_wanted (WriteOf block) r = writes_block block r
+is_wanted (EarlierWrite extent serial) r = is_earlier_overlap serial extent r
+is_wanted Command r = is_command r.op

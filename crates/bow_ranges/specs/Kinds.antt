@@ -5,10 +5,12 @@ use Rattle.bow_units.specs.declared.sizes.Extent.{Extent}
 use Rattle.bow_units.specs.declared.statuses.Kind.{Kind}
 use Rattle.bow_units.specs.declared.statuses.Kind.TheVariants.{Unchanged, Free, Changed}
 
+-- the block is free
 abbrev pub is_free : Kind → Bool
 is_free Free = true
 is_free _ = false
 
+-- the block was changed since its backup is durable
 abbrev pub is_changed : Kind → Bool
 is_changed Changed = true
 is_changed _ = false
@@ -35,7 +37,8 @@ with_kind kinds e kind = take e.first kinds ++ replicate e.count kind ++ drop (e
 
 -- a changed block of the extent that lies in none of `but` becomes free
 abbrev pub kind_reclaimed : Extent → List Extent → ℕ → Kind → Kind
-kind_reclaimed e but block kind = if is_changed kind && (holds e block && not (list_any (λ other. holds other block) but)) then Free else kind
+kind_reclaimed e but block kind =
+    if is_changed kind && (holds e block && not (list_any (λ other. holds other block) but)) then Free else kind
 
 -- so with each block
 abbrev pub reclaimed : List Kind → Extent → List Extent → List Kind

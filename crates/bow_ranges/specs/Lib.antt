@@ -1,3 +1,4 @@
 pub mod Kinds
 pub mod Picks
 pub mod Runs
+pub mod Laws

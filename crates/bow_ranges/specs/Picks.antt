@@ -9,12 +9,15 @@ use Rattle.bow_ranges.specs.Kinds.{is_free, kind_at, IsRunOf}
 -- the block joined to the runs above it
 abbrev pub joined : ℕ → List Extent → List Extent
 joined block [] = record { first = block; count = 1 } ∷ []
-joined block (run ∷ runs) = if run.first == block + 1 then record { first = block; count = run.count + 1 } ∷ runs else record { first = block; count = 1 } ∷ run ∷ runs
+joined block (run ∷ runs) =
+    if run.first == block + 1 then record { first = block; count = run.count + 1 } ∷ runs
+    else record { first = block; count = 1 } ∷ run ∷ runs
 
 -- the longest runs of free blocks, the lowest first; the kinds are those of the blocks from `block` on
 abbrev pub free_runs : ℕ → List Kind → List Extent
 free_runs block [] = []
-free_runs block (kind ∷ kinds) = if is_free kind then joined block (free_runs (block + 1) kinds) else free_runs (block + 1) kinds
+free_runs block (kind ∷ kinds) = if is_free kind then joined block (free_runs (block + 1) kinds)
+    else free_runs (block + 1) kinds
 
 -- the longer of two runs, the first at a tie
 abbrev pub longer : Extent → Option Extent → Extent

@@ -52,7 +52,8 @@ pub record IsHead (start : ℕ) (kind left : Kind) (old head : List Run) : Type 
   pub normal : IsNormal 0 None head
   pub last : kind_of None head ≢ Some kind
   pub ends : end_of 0 head ≤ start
-  pub spreads : spread 0 head ++ replicate (start - end_of 0 head) kind ≡ spread 0 old ++ replicate (start - end_of 0 old) left
+  pub spreads : spread 0 head ++ replicate (start - end_of 0 head) kind
+      ≡ spread 0 old ++ replicate (start - end_of 0 old) left
 
 -- the runs are `old` with this kind from `start` to before `end`
 pub record IsPut (old : List Run) (start end : ℕ) (kind : Kind) (new : List Run) : Type 0 where
@@ -70,7 +71,9 @@ pub record IsKept (runs : List Run) (room : ℕ) : Type 0 where
 -- the runs of free blocks among these runs, the first of which begins at `at`
 abbrev pub free_parts : ℕ → List Run → List Extent
 free_parts at [] = []
-free_parts at (run ∷ runs) = if is_free run.kind then record { first = at; count = run.end - at } ∷ free_parts run.end runs else free_parts run.end runs
+free_parts at (run ∷ runs) =
+    if is_free run.kind then record { first = at; count = run.end - at } ∷ free_parts run.end runs
+    else free_parts run.end runs
 
 -- the longer of the longest run so far, if any, and the next one; the first at a tie
 abbrev pub longer_of : Option Extent → Extent → Extent

@@ -18,7 +18,8 @@ pub fn piece_of(at: u64, limit: u64, but: &[Extent]) -> Piece
     requires { 0 < limit }
     ensures some { 0 < result.count }
     ensures most { result.count ≤ limit }
-    ensures alike { (b : ℕ) → at ≤ b → b < at + result.count → list_any (λ other. holds other b) but.now ≡ result.spared }
+    ensures alike { (b : ℕ) → at ≤ b → b < at + result.count
+        → list_any (λ other. holds other b) but.now ≡ result.spared }
 {
     let mut count = limit;
     for other in but {

@@ -11,7 +11,7 @@ use std::alloc::Global;
 
 /// The kinds of all blocks of a device. Its content is the list of the kinds, one for each block, in order.
 /// Only `open` takes memory.
-pub trait Ranges: Sized {
+pub trait Ranges: Sized + Drop {
     /// The kind of each block.
     ghost kinds: { Self → List Kind };
 

@@ -7,7 +7,7 @@ use Rattle.crossbeam_utils.specs.Register.{Turns, Forks}
 use Rattle.bow_units.specs.declared.statuses.Seen.{Seen}
 use Rattle.bow_status.specs.declared.view.View.{View}
 use Rattle.bow_status.specs.declared.shown.Shown.{Shown}
-use Rattle.bow_status.specs.Rising.{opening_value, seen_of, last_of, newest, VersionsRise, WasShown, IsSameOrNewer, StatusRule, publishing, watching, publishes, looks, reads}
+use Rattle.bow_status.specs.Rising.{opening_value, seen_of, last_of, newest, VersionsRise, WasShown, IsSameOrNewer, PassOk, StatusRule, publishing, watching, publishes, looks, reads}
 
 pub last_snoc : (s : Seen) (sent : List Seen) (x : Seen) → last_of s (sent ++ x ∷ []) ≡ x
 last_snoc s [] x = refl
@@ -57,7 +57,7 @@ publish_turns id v y right less x views r at =
         rises = rise_snoc opening_value r.sent (seen_of y) r.rises less';
         spells = sym (last_snoc opening_value r.sent (seen_of y));
         each = λ by u u_at. ⊎_elim
-            (λ t. subst (λ (z : View). (z.publishes ≡ true → (by ≡ r.publisher) × (z.sent ≡ sent')) × WasShown sent' z.last × IsSameOrNewer z.last (seen_of y)) t.1
+            (λ t. subst (PassOk r.publisher sent' (seen_of y) by) t.1
             ((λ _. (t.0 ∙ know.0, ap (λ (l : List Seen). l ++ seen_of y ∷ []) know.1)), was_more r.sent (seen_of y) v.last mine.1, still_older v.last (seen_of x) (seen_of y) mine.2 grows))
             (λ t. let k = r.each by u t.1 in ((λ p. absurd (t.0 ((k.0 p).0 ∙ sym know.0))), was_more r.sent (seen_of y) u.last k.1, still_older u.last (seen_of x) (seen_of y) k.2 grows))
             (at_set views id by w u u_at);
@@ -76,7 +76,7 @@ look_turns id v x views r at =
         rises = r.rises;
         spells = r.spells;
         each = λ by u u_at. ⊎_elim
-            (λ t. subst (λ (z : View). (z.publishes ≡ true → (by ≡ r.publisher) × (z.sent ≡ r.sent)) × WasShown r.sent z.last × IsSameOrNewer z.last (seen_of x)) t.1
+            (λ t. subst (PassOk r.publisher r.sent (seen_of x) by) t.1
             ((λ p. (t.0 ∙ (mine.0 p).0, (mine.0 p).1)), subst (WasShown r.sent) (sym r.spells) (newest_shown r.sent), inl refl))
             (λ t. r.each by u t.1)
             (at_set views id by w u u_at);
@@ -101,8 +101,8 @@ cell_starts x is = record {
   each = λ by v at. first_only by v at;
 }
   where
-    first_only : (by : ℕ) (v : View) → get_elem? (publishing [] ∷ []) by ≡ some v → (v.publishes ≡ true → (by ≡ 0) × (v.sent ≡ [])) × WasShown [] v.last × IsSameOrNewer v.last (seen_of x)
-    first_only zero v at = let by0 : ℕ = 0 in subst (λ (z : View). (z.publishes ≡ true → (by0 ≡ by0) × (z.sent ≡ [])) × WasShown [] z.last × IsSameOrNewer z.last (seen_of x)) (some-injective (publishing []) v at) ((λ _. (refl, refl)), inl refl, inl (sym is))
+    first_only : (by : ℕ) (v : View) → get_elem? (publishing [] ∷ []) by ≡ some v → PassOk 0 [] (seen_of x) by v
+    first_only zero v at = subst (PassOk 0 [] (seen_of x) zero) (some-injective (publishing []) v at) ((λ _. (refl, refl)), inl refl, inl (sym is))
     first_only (suc by) v at = absurd (some-ne-none v (sym at))
 
 pub watcher_forks : (id : ℕ) (v : View) → Forks StatusRule id v v (watching 0 opening_value)
@@ -112,6 +112,6 @@ watcher_forks id v x views r at = record {
   rises = r.rises;
   spells = r.spells;
   each = λ by u u_at. ⊎_elim (λ was. r.each by u (subst (λ (l : List View). get_elem? l by ≡ some u) (set_again views id v at) was))
-      (λ is. subst (λ (z : View). (z.publishes ≡ true → (by ≡ r.publisher) × (z.sent ≡ r.sent)) × WasShown r.sent z.last × IsSameOrNewer z.last (seen_of x)) is ((λ p. absurd cc), inl refl, subst (IsSameOrNewer opening_value) (sym r.spells) (opening_old r.sent r.rises)))
+      (λ is. subst (PassOk r.publisher r.sent (seen_of x) by) is ((λ p. absurd cc), inl refl, subst (IsSameOrNewer opening_value) (sym r.spells) (opening_old r.sent r.rises)))
       (at_snoc (set views id v) (watching 0 opening_value) u by u_at);
 }

@@ -36,20 +36,33 @@ IsSameOrNewer old new = (old ≡ new) ⊎ (old.version < new.version)
 
 -- the status that the cell's words spell
 abbrev pub seen_of : Shown → Seen
-seen_of x = record { version = x.version; status = record { phase = x.phase; free = x.free; sequence = x.sequence; entries = x.entries } }
+seen_of x = record {
+  version = x.version;
+  status = record { phase = x.phase; free = x.free; sequence = x.sequence; entries = x.entries };
+}
 
--- The cell spells the newest of what was sent, whose versions rise. One pass alone publishes, and knows all that was sent.
--- What a pass saw last was shown, and the cell's value is the same or newer.
+-- of a pass with this view: if it publishes, it is the publisher's and knows all that was sent
+abbrev pub PublishesAlone : ℕ → List Seen → ℕ → View → Type 0
+PublishesAlone publisher sent pass v = v.publishes ≡ true → (pass ≡ publisher) × (v.sent ≡ sent)
+
+-- what the pass saw last was shown, and the cell's value is the same or newer; and one pass alone publishes
+abbrev pub PassOk : ℕ → List Seen → Seen → ℕ → View → Type 0
+PassOk publisher sent now pass v =
+    PublishesAlone publisher sent pass v × WasShown sent v.last × IsSameOrNewer v.last now
+
+-- the cell spells the newest of what was sent, whose versions rise, and what each pass knows is true of it
 pub record StatusRule (shown : Shown) (views : List View) : Type 0 where
   pub publisher : ℕ
   pub sent : List Seen
   pub rises : VersionsRise 0 sent
   pub spells : seen_of shown ≡ newest sent
-  pub each : (pass : ℕ) (v : View) → get_elem? views pass ≡ some v → (v.publishes ≡ true → (pass ≡ publisher) × (v.sent ≡ sent)) × WasShown sent v.last × IsSameOrNewer v.last (seen_of shown)
+  pub each : (pass : ℕ) (v : View) → get_elem? views pass ≡ some v → PassOk publisher sent (seen_of shown) pass v
 
+-- the view of one that publishes and has sent these, before any look
 abbrev pub publishing : List Seen → View
 publishing sent = record { publishes = true; sent = sent; looks = 0; last = opening_value }
 
+-- the view of one that looks: how often it did, and what it saw last
 abbrev pub watching : ℕ → Seen → View
 watching looks last = record { publishes = false; sent = []; looks = looks; last = last }
 
@@ -82,8 +95,10 @@ IsFirstWatcher cell w = (w.cell ≡ cell) × (w.looks ≡ 0) × (w.last ≡ open
 
 -- whatever two holders of passes saw last, equal versions are the same value
 abbrev pub EqualVersionsAreOne : List View → Type 0
-EqualVersionsAreOne views = (i j : ℕ) (v w : View) → get_elem? views i ≡ some v → get_elem? views j ≡ some w → v.last.version ≡ w.last.version → v.last ≡ w.last
+EqualVersionsAreOne views = (i j : ℕ) (v w : View) → get_elem? views i ≡ some v → get_elem? views j ≡ some w
+    → v.last.version ≡ w.last.version → v.last ≡ w.last
 
 -- what anyone saw last is the opening value or was sent by the publisher
 abbrev pub SeenWasSent : List View → Type 0
-SeenWasSent views = (i j : ℕ) (v w : View) → get_elem? views i ≡ some v → get_elem? views j ≡ some w → w.publishes ≡ true → WasShown w.sent v.last
+SeenWasSent views = (i j : ℕ) (v w : View) → get_elem? views i ≡ some v → get_elem? views j ≡ some w
+    → w.publishes ≡ true → WasShown w.sent v.last

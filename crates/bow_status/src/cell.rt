@@ -105,7 +105,11 @@ impl Model for Watcher {
 
     ghost Value = { Watching };
 
-    ghost view = { λ w. record { cell = w.pass.table_id; looks = (cell_view w.pass).looks; last = (cell_view w.pass).last } };
+    ghost view = { λ w. record {
+      cell = w.pass.table_id;
+      looks = (cell_view w.pass).looks;
+      last = (cell_view w.pass).last;
+    } };
 }
 
 fn shown_of(seen: Seen) -> Shown
@@ -156,8 +160,10 @@ fn split_watchers(
     count: u32,
 ) -> Result<Vec<Watcher>, AllocError>
     requires { pass.old.table_id ≡ cell.now.table.shared.table_id }
-    ensures pass { IfOk result (λ _. (pass.new.table_id ≡ pass.old.table_id) × (cell_view pass.new ≡ cell_view pass.old)) }
-    ensures watchers { IfOk result (λ v. (length v.items ≡ count) × All (IsFirstWatcher cell.now.table.shared.table_id) v.items) }
+    ensures pass { IfOk result (λ _.
+        (pass.new.table_id ≡ pass.old.table_id) × (cell_view pass.new ≡ cell_view pass.old)) }
+    ensures watchers { IfOk result (λ v.
+        (length v.items ≡ count) × All (IsFirstWatcher cell.now.table.shared.table_id) v.items) }
 {
     let mut watchers = Vec::new(alloc);
     for _ in 0..count {

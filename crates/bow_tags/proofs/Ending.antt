@@ -11,10 +11,10 @@ use Rattle.bow_tags.specs.declared.view.Stance.TheVariants.{Idle, Holding, Poste
 use Rattle.bow_tags.specs.declared.view.LaneView.{LaneView}
 use Rattle.bow_tags.specs.declared.view.Entry.{Entry}
 use Rattle.bow_tags.specs.declared.view.View.{View}
-use Rattle.bow_tags.specs.Rule.{Phase, idle, holding, posted, taken, done, retiring, face, stance_of, replies, total, given_times, LaneTie, Told, Rule}
+use Rattle.bow_tags.specs.Rule.{In, Phase, idle, holding, posted, taken, done, retiring, face, stance_of, replies, total, given_times, LaneTie, Told, Rule}
 use Rattle.bow_tags.specs.Steps.{lane_of, looked, SpeaksForAll}
 use Rattle.bow_tags.specs.Seats.{Sitting, Numbered, IsServerAt, IsLastWord, NoJobs, AllGiven, AnsweredOnce, times_given}
-use Rattle.bow_tags.specs.Gathering.{In, HasLane, Gathers, CountsGiven}
+use Rattle.bow_tags.specs.Gathering.{HasLane, Gathers, CountsGiven}
 use Rattle.bow_tags.proofs.Lists.{each_at, times_at, times_find, total_append, total_find, total_at, total_only, present_is, at_short, at_end, head_at}
 use Rattle.bow_tags.proofs.Keeps.{face_small, is_here}
 use Rattle.bow_tags.proofs.Serves.{alone, same_number}
@@ -52,13 +52,24 @@ take_more {A = A} xs i x e = subst (λ (k : ℕ). take k xs ≡ take i xs ++ x �
     go (z ∷ zs) zero y h = ap (λ (w : A). w ∷ []) (some-injective z y h)
     go (z ∷ zs) (suc j) y h = ap (λ (w : List A). z ∷ w) (go zs j y h)
 
+-- the server whose seat is the last of all
+pub last_server : {P Q : Type 0} (z : TableId) (init all : List (Sitting P Q)) (last : Sitting P Q) → all ≡ init ++ last ∷ [] → Numbered (IsServerAt z (length all)) all → IsServerAt z (length all) (length init) last
+last_server z init all last whole_is at_servers = at_servers (length init) last (member init last (last ∷ []) [] all (sym whole_is) refl)
+
+-- what the last words, the lanes and the servers say of each other
+pub record AtEnd {P Q : Type 0} (ws : List ℕ) (lanes all : List (Sitting P Q)) : Type 0 where
+  pub last : Numbered (λ i (s : Sitting P Q). IsLastWord (get_or ws i 0) (lane_of s.view)) lanes
+  pub free : NoJobs all
+  pub got : AllGiven lanes all
+  pub once : AnsweredOnce ws all
+
 -- the seats of the lanes came to `first`, which is the last server's seat, and then the other servers' came
 module _ {P Q : Type 0} (fits : ℕ → P → Type 0) (z : TableId) (ws : List ℕ) (xs : List (Slot P Q)) (id word : ℕ) (lanes init all : List (Sitting P Q)) (last : Sitting P Q) (first v : View P Q)
     (final : Final (Seen (Rule fits) id v) ws xs) (whole_is : all ≡ init ++ last ∷ [])
     (lane_seats : Gathers last.view lanes first) (same : (first.given ≡ last.view.given) × (first.servers ≡ last.view.servers))
     (server_seats : Gathers (looked 0 word first) init v) (counts : CountsGiven (looked 0 word first) init v) (servers : v.servers ≡ first.servers)
     (at_servers : Numbered (IsServerAt z (length all)) all) where
-  pub words_end : Numbered (λ i s. HasLane first s) lanes → Numbered (λ i (s : Sitting P Q). (lane_of s.view).lane ≡ i) lanes → Numbered (λ i s. IsLastWord (get_or ws i 0) (lane_of s.view)) lanes
+  words_end : Numbered (λ i s. HasLane first s) lanes → Numbered (λ i (s : Sitting P Q). (lane_of s.view).lane ≡ i) lanes → Numbered (λ i s. IsLastWord (get_or ws i 0) (lane_of s.view)) lanes
   words_end has at_lanes i s s_at =
       let e : LaneView P = lane_of s.view in
       let mine = has i s s_at in
@@ -75,8 +86,7 @@ module _ {P Q : Type 0} (fits : ℕ → P → Type 0) (z : TableId) (ws : List �
 
   speaks_all : SpeaksForAll v
   speaks_all j less =
-      let end = member init last (last ∷ []) [] all (sym whole_is) refl in
-      let count : last.view.servers ≡ length all = (at_servers (length init) last end).2 in
+      let count : last.view.servers ≡ length all = (last_server z init all last whole_is at_servers).2 in
       let got = at_short all j (let a = servers in let b = same.1 in omega arith) in
       let t : Sitting P Q = got.0 in
       let mine : In j t.view.speaks = (0, head_at t.view.speaks j (at_servers j t got.1).1) in
@@ -99,7 +109,7 @@ module _ {P Q : Type 0} (fits : ℕ → P → Type 0) (z : TableId) (ws : List �
       let c : total g all ≡ total g init + (g last + 0) = ap (total g) whole_is ∙ total_append g init (last ∷ []) in
       only ∙ (omega arith)
 
-  pub got_end : AllGiven lanes all
+  got_end : AllGiven lanes all
   got_end i s k x s_at x_at =
       let h : In x v.got = server_seats.got x (inl (lane_seats.got x (inr (i, s, s_at, (k, x_at))))) in
       let s0 = final.0 in let r = final.1.0 in
@@ -123,7 +133,7 @@ module _ {P Q : Type 0} (fits : ℕ → P → Type 0) (z : TableId) (ws : List �
       passed : (w : Entry P Q) → ((w.lane == w.lane) && (w.number == w.number)) ≡ true
       passed w = subst (λ b. (b && (w.number == w.number)) ≡ true) (sym (is_here w.lane)) (is_here w.number)
 
-  pub once_end : AnsweredOnce ws all
+  once_end : AnsweredOnce ws all
   once_end l k near =
       let s0 = final.0 in let r = final.1.0 in
       let wd = r.wide in
@@ -140,6 +150,9 @@ module _ {P Q : Type 0} (fits : ℕ → P → Type 0) (z : TableId) (ws : List �
         λ high. sym n ∙ (o ∙ p.1 (λ less. ⊎_elim (λ a. let a0 = a.0 in let a1 = a.1 in absurd (omega arith)) (λ a. let a0 = a.0 in let a1 = a.1 in absurd (omega arith)) cases)),
       )
 
-  pub free_end : v.jobs ≡ [] → NoJobs all
+  free_end : v.jobs ≡ [] → NoJobs all
   free_end free j t at = ⊎_elim (λ (o : get_elem? init j ≡ some t). in_none t.view.jobs v.jobs free (λ x h. server_seats.jobs x (inr (j, t, o, h))))
       (λ (o : last ≡ t). in_none t.view.jobs v.jobs free (λ x h. server_seats.jobs x (inl (lane_seats.jobs x (inl (subst (λ (q : Sitting P Q). In x q.view.jobs) (sym o) h)))))) (which j t at)
+
+  pub ends : Numbered (λ i s. HasLane first s) lanes → Numbered (λ i (s : Sitting P Q). (lane_of s.view).lane ≡ i) lanes → v.jobs ≡ [] → AtEnd ws lanes all
+  ends has at_lanes free = record { last = words_end has at_lanes; free = free_end free; got = got_end; once = once_end }

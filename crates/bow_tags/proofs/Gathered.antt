@@ -8,10 +8,10 @@ use Rattle.bow_tags.specs.declared.view.Stance.TheVariants.{Holding}
 use Rattle.bow_tags.specs.declared.view.LaneView.{LaneView}
 use Rattle.bow_tags.specs.declared.view.Entry.{Entry}
 use Rattle.bow_tags.specs.declared.view.View.{View}
-use Rattle.bow_tags.specs.Rule.{given_times}
+use Rattle.bow_tags.specs.Rule.{In, given_times}
 use Rattle.bow_tags.specs.Steps.{lane_of, looked, joined, SpeaksForIdle}
 use Rattle.bow_tags.specs.Seats.{Sitting, IsLaneSeat, stance_if, AllIdle}
-use Rattle.bow_tags.specs.Gathering.{In, Among, Keeps, HasLane, Gathers, CountsGiven}
+use Rattle.bow_tags.specs.Gathering.{Among, Keeps, HasLane, Gathers, CountsGiven}
 use Rattle.bow_tags.proofs.Lists.{times-append, total_append, head_at, at_short}
 
 pub in_left : {A : Type 0} (x : A) (xs ys : List A) → In x xs → In x (xs ++ ys)

@@ -1,5 +1,5 @@
 -- Lists whose elements meet a fact, counts in them, and totals over views.
-use Rattle.std.proofs.Common.{slice_index_or, ◌≡◌, ℕ, zero, suc, ◌+◌, ◌<◌, ◌≤◌, ◌≢◌, Bool, true, false, cond, ◌⊎◌, inl, inr, ⊎_elim, List, [], ◌∷◌, ◌++◌, length, set, sym, refl, ap, ◌∙◌, subst, arith, filter, ◌==◌, eq-eqb, ne_eqb}
+use Rattle.std.proofs.Common.{slice_index_or, ◌≡◌, ℕ, zero, suc, ◌+◌, ◌<◌, ◌≤◌, ◌≢◌, Bool, true, false, cond, ◌⊎◌, inl, inr, ⊎_elim, List, [], ◌∷◌, ◌++◌, length, length-append, set, sym, refl, ap, ◌∙◌, subst, arith, filter, ◌==◌, eq-eqb, ne_eqb}
 use native.Mathlib.Decide.{ℕ_discrete}
 use mathlib.Core.Option.{some, some-injective, some-ne-none}
 use lib.ListN.{get_elem?}
@@ -108,8 +108,16 @@ module _ {A : Type 0} where
   at_end (x ∷ xs) a b zero e = inl e
   at_end (x ∷ xs) a b (suc j) e = ⊎_elim (λ h. inl h) (λ h. inr (ap suc h.0, h.1)) (at_end xs a b j e)
 
-  pub numbered_snoc : (F : ℕ → A → Type 0) (xs : List A) (a : A) → ((i : ℕ) (x : A) → get_elem? xs i ≡ some x → F i x) → F (length xs) a → (i : ℕ) (x : A) → get_elem? (xs ++ a ∷ []) i ≡ some x → F i x
+  numbered_snoc : (F : ℕ → A → Type 0) (xs : List A) (a : A) → ((i : ℕ) (x : A) → get_elem? xs i ≡ some x → F i x) → F (length xs) a → (i : ℕ) (x : A) → get_elem? (xs ++ a ∷ []) i ≡ some x → F i x
   numbered_snoc F xs a h k i x at = ⊎_elim (h i x) (λ t. subst (λ (z : ℕ × A). F z.0 z.1) (λ n. (sym t.0 n, t.1 n)) k) (at_end xs a x i at)
+
+  -- one more was put behind k of them, each at its place
+  pub pushed : (F : ℕ → A → Type 0) (xs : List A) (a : A) (ys : List A) (k : ℕ) → ys ≡ xs ++ a ∷ [] → length xs ≡ k → ((i : ℕ) (x : A) → get_elem? xs i ≡ some x → F i x) → F k a
+      → (length ys ≡ k + 1) × ((i : ℕ) (x : A) → get_elem? ys i ≡ some x → F i x)
+  pushed F xs a ys k is many each new = (
+    ap (λ (z : List A). length z) is ∙ (length-append xs (a ∷ []) ∙ ap (λ (n : ℕ). n + 1) many),
+    λ i x at. numbered_snoc F xs a each (subst (λ (n : ℕ). F n a) (sym many) new) i x (subst (λ (z : List A). get_elem? z i ≡ some x) is at),
+  )
 
   pub by_index : (F : ℕ → A → Type 0) (xs : List A) → ((i : ℕ) (x : A) → get_elem? xs i ≡ some x → F i x) → (i : ℕ) (d : A) → i < length xs → F i (slice_index_or xs i d)
   by_index F xs h i d less = h i (slice_index_or xs i d) (reads xs i d less)

@@ -12,11 +12,11 @@ use Rattle.bow_tags.specs.declared.view.Slot.TheVariants.{Empty, Ask}
 use Rattle.bow_tags.specs.declared.view.Held.{Held}
 use Rattle.bow_tags.specs.declared.view.View.{View}
 use Rattle.bow_tags.specs.Rule.{Each, times, job_times}
-use Rattle.bow_tags.specs.Steps.{lane_of, looked, held, others, HoldsJob}
+use Rattle.bow_tags.specs.Steps.{after_answer, lane_of, looked, held, others, HoldsJob}
 use Rattle.bow_tags.proofs.Keeps.{is_here}
 use Rattle.bow_tags.proofs.Serves.{others_else, others_here}
 use Rattle.bow_tags.specs.declared.view.Stance.TheVariants.{Idle, Posted}
-use Rattle.bow_tags.specs.Seats.{IsLaneSeat, IsServerSeat, after_answer, IsTurn, before, with_empty}
+use Rattle.bow_tags.specs.Seats.{IsLaneSeat, IsServerSeat, IsTurn, before, with_empty}
 use Rattle.bow_tags.proofs.Lists.{each_append, times-append, times_at}
 
 pub hit_one : (a b : ℕ) → a ≡ b → cond {A = ℕ} (a == b) 1 0 ≡ 1

@@ -4,15 +4,13 @@ use mathlib.Core.Option.{some}
 use lib.ListN.{get_elem?}
 use Rattle.atomic_table.specs.Seated.{TableId}
 use Rattle.bow_tags.specs.declared.view.View.{View}
-use Rattle.bow_tags.specs.Rule.{given_times}
+use Rattle.bow_tags.specs.Rule.{In, given_times}
 use Rattle.bow_tags.specs.declared.view.Stance.TheVariants.{Holding}
 use Rattle.bow_tags.specs.Steps.{lane_of}
 use Rattle.bow_tags.specs.Seats.{Sitting, times_given}
 
-abbrev pub In : {A : Type 0} → A → List A → Type 0
-In x xs = (i : ℕ) × (get_elem? xs i ≡ some x)
-
 module _ {P Q : Type 0} where
+  -- the seat is one of this table
   abbrev pub AtTable : TableId → Sitting P Q → Type 0
   AtTable z s = s.table ≡ z
 

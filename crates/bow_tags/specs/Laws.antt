@@ -15,16 +15,20 @@ module _ {P Q : Type 0} where
 
   -- no two seats hold a job of one lane, and none holds two
   abbrev pub HeldOnce : State (Slot P Q) (View P Q) → Type 0
-  HeldOnce s = (j i k m : ℕ) (x y : Held P) → Stands (λ v. v.jobs) s j i x → Stands (λ v. v.jobs) s k m y → x.lane ≡ y.lane → (j ≡ k) × (i ≡ m)
+  HeldOnce s = (j i k m : ℕ) (x y : Held P) → Stands (λ v. v.jobs) s j i x → Stands (λ v. v.jobs) s k m y
+      → x.lane ≡ y.lane → (j ≡ k) × (i ≡ m)
 
   -- no job is held whose number was answered, nor one before such a number
   abbrev pub NeverTakenAgain : State (Slot P Q) (View P Q) → Type 0
-  NeverTakenAgain s = (j i k m : ℕ) (x : Held P) (y : Entry P Q) → Stands (λ v. v.jobs) s j i x → Stands (λ v. v.given) s k m y → x.lane ≡ y.lane → y.number < x.number
+  NeverTakenAgain s = (j i k m : ℕ) (x : Held P) (y : Entry P Q)
+      → Stands (λ v. v.jobs) s j i x → Stands (λ v. v.given) s k m y → x.lane ≡ y.lane → y.number < x.number
 
   -- no two entries that were given, by one seat or by two, are of one lane and number
   abbrev pub GivenOnce : State (Slot P Q) (View P Q) → Type 0
-  GivenOnce s = (j i k m : ℕ) (x y : Entry P Q) → Stands (λ v. v.given) s j i x → Stands (λ v. v.given) s k m y → x.lane ≡ y.lane → x.number ≡ y.number → (j ≡ k) × (i ≡ m)
+  GivenOnce s = (j i k m : ℕ) (x y : Entry P Q) → Stands (λ v. v.given) s j i x → Stands (λ v. v.given) s k m y
+      → x.lane ≡ y.lane → x.number ≡ y.number → (j ≡ k) × (i ≡ m)
 
   -- what was got was given, with the same ask and the same answer
   abbrev pub GotWasGiven : State (Slot P Q) (View P Q) → Type 0
-  GotWasGiven s = (j i : ℕ) (x : Entry P Q) → Stands (λ v. v.got) s j i x → (k : ℕ) × (m : ℕ) × Stands (λ v. v.given) s k m x
+  GotWasGiven s = (j i : ℕ) (x : Entry P Q) → Stands (λ v. v.got) s j i x
+      → (k : ℕ) × (m : ℕ) × Stands (λ v. v.given) s k m x

@@ -13,7 +13,7 @@ use Rattle.bow_tags.specs.declared.view.Entry.{Entry}
 use Rattle.bow_tags.specs.declared.view.View.{View}
 use Rattle.bow_tags.specs.declared.table.Opening.{Opening}
 
--- What a lane is at. A lane that is holding has its slot and has not posted yet; one that is retiring has its reply in hand.
+-- What a lane is at: holding, it has its slot and has not posted yet; retiring, it has its reply in hand.
 pub data Phase : Type 0 where
   idle : Phase
   holding : Phase
@@ -35,51 +35,38 @@ face retiring = 3
 abbrev pub stance_of : Phase → Stance
 stance_of idle = Idle
 stance_of holding = Holding
-stance_of posted = Posted
-stance_of taken = Posted
-stance_of done = Posted
-stance_of retiring = Posted
+stance_of _ = Posted
 
 -- 1 where the present number has its ask
 abbrev pub asks : Phase → ℕ
 asks idle = 0
 asks holding = 0
-asks posted = 1
-asks taken = 1
-asks done = 1
-asks retiring = 1
+asks _ = 1
 
 -- 1 where it has its answer
 abbrev pub replies : Phase → ℕ
-replies idle = 0
-replies holding = 0
-replies posted = 0
-replies taken = 0
 replies done = 1
 replies retiring = 1
+replies _ = 0
 
 -- 1 where a seat holds its job
 abbrev pub holders : Phase → ℕ
-holders idle = 0
-holders holding = 0
-holders posted = 0
 holders taken = 1
-holders done = 0
-holders retiring = 0
+holders _ = 0
 
 -- 1 where the reply is in hand
 abbrev pub hands : Phase → ℕ
-hands idle = 0
-hands holding = 0
-hands posted = 0
-hands taken = 0
-hands done = 0
 hands retiring = 1
+hands _ = 0
 
 -- F holds of each
 abbrev pub Each : {A : Type 0} → (A → Type 0) → List A → Type 0
 Each F [] = Unit {0}
 Each F (x ∷ xs) = F x × Each F xs
+
+-- x stands in the list
+abbrev pub In : {A : Type 0} → A → List A → Type 0
+In x xs = (i : ℕ) × (get_elem? xs i ≡ some x)
 
 -- how often a test passes
 abbrev pub times : {A : Type 0} → (A → Bool) → List A → ℕ
@@ -104,20 +91,23 @@ pub record Cell (P Q : Type 0) : Type 0 where
   pub asked : List P
   pub answered : List Q
 
--- how many of these are of lane l
+-- how many of these lanes are lane l
 abbrev pub lane_times : {P : Type 0} → ℕ → List (LaneView P) → ℕ
 lane_times l xs = times (λ x. x.lane == l) xs
 
+-- how many of these jobs are of lane l
 abbrev pub job_times : {P : Type 0} → ℕ → List (Held P) → ℕ
 job_times l xs = times (λ x. x.lane == l) xs
 
+-- how many of these entries are of lane l
 abbrev pub hand_times : {P Q : Type 0} → ℕ → List (Entry P Q) → ℕ
 hand_times l xs = times (λ x. x.lane == l) xs
 
--- how many of these are of lane l and number k
+-- how many of these entries are of lane l and number k
 abbrev pub given_times : {P Q : Type 0} → ℕ → ℕ → List (Entry P Q) → ℕ
 given_times l k xs = times (λ x. (x.lane == l) && (x.number == k)) xs
 
+-- how often the server number j stands here
 abbrev pub server_times : ℕ → List ℕ → ℕ
 server_times j xs = times (λ x. x == j) xs
 
@@ -133,7 +123,8 @@ module _ {P Q : Type 0} where
 
   module _ (fits : ℕ → P → Type 0) where
     -- the word and the slot of lane i, and its asks and answers, are those of c
-    pub record CellOk (size : ℕ) (words : List ℕ) (homes : List (Option (Slot P Q))) (i : ℕ) (c : Cell P Q) : Type 0 where
+    pub record CellOk (size : ℕ) (words : List ℕ) (homes : List (Option (Slot P Q))) (i : ℕ) (c : Cell P Q)
+        : Type 0 where
       pub word : slice_index words i ≡ 4 * c.number + face c.phase
       pub small : c.number + asks c.phase < 2 ^ 32
       pub asks_are : length c.asked ≡ c.number + asks c.phase
@@ -181,8 +172,7 @@ module _ {P Q : Type 0} where
       pub gives : (v.given ≡ []) ⊎ (0 < length v.speaks)
       pub sized : v.live ≡ true → (v.size ≡ size) × (v.width ≡ n) × (v.servers ≡ servers)
 
-  -- Each lane has a cell, with which its word, its slot and every view agree. One seat speaks for each lane and each server number. Of a lane one seat holds
-  -- one job where it is taken, and no seat holds one otherwise. Each answer of a lane stands once among all that was given, and nothing else stands there.
+  -- each lane has a cell, with which its word, its slot and every view agree
   pub record Rule (fits : ℕ → P → Type 0) (s : State (Slot P Q) (View P Q)) : Type 0 where
     pub size : ℕ
     pub servers : ℕ
@@ -190,27 +180,47 @@ module _ {P Q : Type 0} where
     pub wide : length s.words ≡ length s.homes
     pub each_cell : (i : ℕ) → i < length s.homes → CellOk fits size s.words s.homes i (cells i)
     pub each_view : (j : ℕ) (v : View P Q) → get_elem? s.views j ≡ some v → ViewOk (length s.homes) cells size servers v
+    -- one seat speaks for each lane
     pub one_lane : (l : ℕ) → l < length s.homes → total (λ v. lane_times l v.lanes) s.views ≡ 1
+    -- one seat holds the job of a lane that is taken, and no seat holds one of another lane
     pub one_job : (l : ℕ) → l < length s.homes → total (λ v. job_times l v.jobs) s.views ≡ holders (cells l).phase
-    pub one_given : (l k : ℕ) → l < length s.homes → total (λ v. given_times l k v.given) s.views ≡ present k (cells l).answered
+    -- each answer of a lane stands once among all that was given, and nothing else stands there
+    pub one_given : (l k : ℕ) → l < length s.homes
+        → total (λ v. given_times l k v.given) s.views ≡ present k (cells l).answered
+    -- one seat speaks for each server number
     pub one_server : (j : ℕ) → j < servers → total (λ v. server_times j v.speaks) s.views ≡ 1
 
 -- a lane before its first post
 abbrev pub fresh_lane : {P : Type 0} → ℕ → LaneView P
 fresh_lane l = record { lane = l; number = 0; stance = Idle; asked = [] }
 
--- n lanes before their first posts, and n numbers, each from the first one on
+-- n lanes before their first posts, numbered from the first one on
 abbrev pub all_lanes : {P : Type 0} → ℕ → ℕ → List (LaneView P)
 all_lanes from zero = []
 all_lanes from (suc n) = fresh_lane from ∷ all_lanes (from + 1) n
 
+-- n numbers, from the first one on
 abbrev pub below : ℕ → ℕ → List ℕ
 below from zero = []
 below from (suc n) = from ∷ below (from + 1) n
 
--- a seat that has done nothing yet, of so many lanes, servers and this size, which speaks for these lanes and server numbers
+-- a seat that has done nothing yet, and speaks for these lanes and server numbers
 abbrev pub new_view : {P Q : Type 0} → ℕ → ℕ → ℕ → List (LaneView P) → List ℕ → View P Q
-new_view width servers size lanes speaks = record { live = true; size = size; width = width; servers = servers; looks = 0; at = 0; found = 0; lanes = lanes; jobs = []; speaks = speaks; got = []; given = []; hand = [] }
+new_view width servers size lanes speaks = record {
+  live = true;
+  size = size;
+  width = width;
+  servers = servers;
+  looks = 0;
+  at = 0;
+  found = 0;
+  lanes = lanes;
+  jobs = [];
+  speaks = speaks;
+  got = [];
+  given = [];
+  hand = [];
+}
 
 -- the first seat speaks for all
 abbrev pub whole : {P Q : Type 0} → Opening → View P Q

@@ -11,24 +11,26 @@ use Rattle.bow_tags.specs.declared.view.LaneView.{LaneView}
 use Rattle.bow_tags.specs.declared.view.Entry.{Entry}
 use Rattle.bow_tags.specs.declared.view.View.{View}
 use Rattle.bow_tags.specs.Rule.{all_lanes, below, new_view, fresh_lane, Each, times, total, job_times, given_times}
-use Rattle.bow_tags.specs.Steps.{with_lane, looked, entry, held, others, lane_of}
+use Rattle.bow_tags.specs.Steps.{with_lane, with_ask, at_next, with_job, looked, entry, held, lane_of}
 
--- a seat of one table
+-- a seat as contracts see it: its table, its number there, and what it knows
 pub record Sitting (P Q : Type 0) : Type 0 where
   pub table : TableId
   pub id : ℕ
   pub view : View P Q
 
+-- what a lane between its calls is doing, by whether it has posted
 abbrev pub stance_if : Bool → Stance
 stance_if true = Posted
 stance_if false = Idle
 
+-- 1 where it is so
 abbrev pub one_if : Bool → ℕ
 one_if true = 1
 one_if false = 0
 
 module _ {P Q : Type 0} where
-  -- The seat of a lane between its calls, with what it keeps at run time: the lane, its number, and whether it has posted.
+  -- The seat of lane l between its calls, which keeps its number k at run time, and whether it has posted.
   pub record IsLaneSeat (slots l k : ℕ) (is_posted : Bool) (v : View P Q) : Type 0 where
     pub one : v.lanes ≡ lane_of v ∷ []
     pub lane : (lane_of v).lane ≡ l
@@ -42,7 +44,7 @@ module _ {P Q : Type 0} where
     pub room : is_posted ≡ true → k + 1 < 2 ^ 32
     pub long : length (lane_of v).asked ≡ k + one_if is_posted
 
-  -- The seat of a server between its calls. The slots that it carries are those of its jobs, in the order ls of their lanes.
+  -- The seat of a server between its calls, which carries the slots of its jobs, in the order ls of their lanes.
   pub record IsServerSeat (slots : ℕ) (ls : List ℕ) (cs : List (ℕ × Slot P Q)) (v : View P Q) : Type 0 where
     pub carried : cs ≡ map (λ l. (l, Empty)) ls
     pub tally : (l : ℕ) → times (λ x. x == l) ls ≡ job_times l v.jobs
@@ -55,19 +57,18 @@ module _ {P Q : Type 0} where
 
   -- the lane has posted this ask
   abbrev pub after_post : View P Q → P → View P Q
-  after_post v a = with_lane (record (lane_of v) { stance = Posted; asked = (lane_of v).asked ++ a ∷ [] }) v
+  after_post v a = with_lane (with_ask a (lane_of v)) v
 
   -- a look found the lane's number done, and its reply was got
   abbrev pub after_reply : View P Q → P → Q → View P Q
-  after_reply v a q = let e = lane_of v in record (with_lane (record e { number = e.number + 1; stance = Idle }) (looked e.lane (4 * e.number + 3) v)) { got = v.got ++ entry e.lane e.number a q ∷ [] }
+  after_reply v a q = let e = lane_of v in
+      record (with_lane (at_next e) (looked e.lane (4 * e.number + 3) v)) {
+        got = v.got ++ entry e.lane e.number a q ∷ [];
+      }
 
   -- a look found the posted word, and its job is held
   abbrev pub after_take : View P Q → ℕ → ℕ → P → View P Q
-  after_take v l k a = record (looked l (4 * k + 1) v) { jobs = v.jobs ++ held l k a ∷ [] }
-
-  -- the job is answered
-  abbrev pub after_answer : View P Q → ℕ → ℕ → P → Q → View P Q
-  after_answer v l k a q = record v { jobs = others l v.jobs; given = v.given ++ entry l k a q ∷ [] }
+  after_take v l k a = with_job (held l k a) (looked l (4 * k + 1) v)
 
 -- the list in another turn
 abbrev pub IsTurn : List ℕ → List ℕ → Type 0
@@ -107,6 +108,10 @@ module _ {P Q : Type 0} where
   abbrev pub first_view : ℕ → ℕ → ℕ → ℕ → ℕ → View P Q
   first_view lanes servers size i j = new_view lanes servers size (all_lanes i (lanes - i)) (below j (servers - j))
 
+  -- the seat of a lane that has posted nothing, of tags for asks that fit this size
+  abbrev pub HasNotPosted : ℕ → View P Q → Type 0
+  HasNotPosted size v = ((lane_of v).stance ≡ Idle) × ((lane_of v).number ≡ 0) × (v.size ≡ size)
+
   -- the seat of lane i
   abbrev pub IsLaneAt : TableId → ℕ → Sitting P Q → Type 0
   IsLaneAt z i s = (s.table ≡ z) × ((lane_of s.view).lane ≡ i)
@@ -129,14 +134,17 @@ module _ {P Q : Type 0} where
 
   -- each entry that a lane got was given by a server
   abbrev pub AllGiven : List (Sitting P Q) → List (Sitting P Q) → Type 0
-  AllGiven lanes servers = (i : ℕ) (s : Sitting P Q) (k : ℕ) (x : Entry P Q) → get_elem? lanes i ≡ some s → get_elem? s.view.got k ≡ some x
+  AllGiven lanes servers = (i : ℕ) (s : Sitting P Q) (k : ℕ) (x : Entry P Q)
+      → get_elem? lanes i ≡ some s → get_elem? s.view.got k ≡ some x
       → (j : ℕ) × (t : Sitting P Q) × (m : ℕ) × (get_elem? servers j ≡ some t) × (get_elem? t.view.given m ≡ some x)
 
-  -- Each number whose answer lies behind the lane's last word was answered once, and no other was answered.
+  -- each number whose answer lies behind the lane's last word was answered once, and no other was answered
   abbrev pub AnsweredOnce : List ℕ → List (Sitting P Q) → Type 0
   AnsweredOnce words servers = (l k : ℕ) → l < length words
-      → (4 * k + 3 ≤ slice_index words l → times_given l k servers ≡ 1) × (slice_index words l < 4 * k + 3 → times_given l k servers ≡ 0)
+      → (4 * k + 3 ≤ slice_index words l → times_given l k servers ≡ 1)
+      × (slice_index words l < 4 * k + 3 → times_given l k servers ≡ 0)
 
 -- the word has the lane's number, and its state is idle exactly where the seat's is
 abbrev pub IsLastWord : {P : Type 0} → ℕ → LaneView P → Type 0
-IsLastWord word e = (state : ℕ) × (state < 4) × (word ≡ 4 * e.number + state) × (e.stance ≡ Idle → state ≡ 0) × (state ≡ 0 → e.stance ≡ Idle)
+IsLastWord word e = (state : ℕ) × (state < 4) × (word ≡ 4 * e.number + state)
+    × (e.stance ≡ Idle → state ≡ 0) × (state ≡ 0 → e.stance ≡ Idle)

@@ -1,9 +1,9 @@
 // What lanes and servers do with the tags.
 ghost use Rattle.std.specs.Prelude.{◌≡◌, ◌≢◌, ℕ, ◌+◌, ◌*◌, ◌<◌, ◌∷◌, drop, IfSome, IfNone, IfOk, IfErr, ◌%◌, ◌==◌};
 ghost use Rattle.bow_tags.specs.declared.view.Stance.TheVariants.{Idle, Posted};
-ghost use Rattle.bow_tags.specs.Steps.{held, looked, lane_of, SpeaksForAll, GivenBelow, HoldsJob};
-ghost use Rattle.bow_tags.specs.Seats.{lanes_of, IsTurn, with_empty, after_post, after_reply, after_take, after_answer};
-ghost use Rattle.bow_tags.specs.Rule.{job_times, times};
+ghost use Rattle.bow_tags.specs.Steps.{held, looked, lane_of, after_answer, SpeaksForAll, GivenBelow, HoldsJob};
+ghost use Rattle.bow_tags.specs.Seats.{lanes_of, IsTurn, with_empty, after_post, after_reply, after_take};
+ghost use Rattle.bow_tags.specs.Rule.{In, job_times, times};
 ghost use mathlib.Core.Option.{some};
 ghost use lib.ListN.{get_elem?};
 
@@ -21,7 +21,8 @@ impl<P: Fits + Drop, Q: Drop> Tags<P, Q> {
         requires idle { (lane_of seat.old.view).stance ≡ Idle }
         requires room { (lane_of seat.old.view).number < 4294967295 }
         requires fits { P.fits seat.old.view.size ask }
-        ensures posts { (seat.new.table ≡ seat.old.table) × (seat.new.id ≡ seat.old.id) × (seat.new.view ≡ after_post seat.old.view ask) }
+        ensures same { (seat.new.table ≡ seat.old.table) × (seat.new.id ≡ seat.old.id) }
+        ensures posts { seat.new.view ≡ after_post seat.old.view ask }
         ensures asks { get_elem? (lane_of seat.new.view).asked (lane_of seat.new.view).number ≡ some ask }
     {
         let shared = &self.table.shared;
@@ -42,9 +43,12 @@ impl<P: Fits + Drop, Q: Drop> Tags<P, Q> {
         requires own { seat.old.table ≡ self.now }
         requires posted { (lane_of seat.old.view).stance ≡ Posted }
         ensures same { (seat.new.table ≡ seat.old.table) × (seat.new.id ≡ seat.old.id) }
-        ensures none { IfNone result ((word : ℕ) × (word % 4 ≢ 3) × (seat.new.view ≡ looked (lane_of seat.old.view).lane word seat.old.view)) }
-        ensures some { IfSome result (λ r. (a : P) × (r.lane ≡ (lane_of seat.old.view).lane) × (r.number ≡ (lane_of seat.old.view).number)
-            × (get_elem? (lane_of seat.old.view).asked r.number ≡ some a) × (seat.new.view ≡ after_reply seat.old.view a r.outcome)) }
+        ensures none { IfNone result ((word : ℕ) × (word % 4 ≢ 3)
+            × (seat.new.view ≡ looked (lane_of seat.old.view).lane word seat.old.view)) }
+        ensures some { IfSome result (λ r. (a : P)
+            × (r.lane ≡ (lane_of seat.old.view).lane) × (r.number ≡ (lane_of seat.old.view).number)
+            × (get_elem? (lane_of seat.old.view).asked r.number ≡ some a)
+            × (seat.new.view ≡ after_reply seat.old.view a r.outcome)) }
     {
         let shared = &self.table.shared;
         let lane = seat.lane as usize;
@@ -96,10 +100,13 @@ impl<P: Fits + Drop, Q: Drop> Tags<P, Q> {
         requires own { seat.old.table ≡ self.now }
         requires lane { lane < lanes_of self.now }
         ensures same { (seat.new.table ≡ seat.old.table) × (seat.new.id ≡ seat.old.id) }
-        ensures ok { IfOk result (λ r. (r.0.lane ≡ lane) × (r.0.number ≡ number) × P.fits seat.old.view.size r.1 × (job_times lane seat.old.view.jobs ≡ 0)
-            × (SpeaksForAll seat.old.view → GivenBelow seat.old.view lane number) × (seat.new.view ≡ after_take seat.old.view lane number r.1)) }
+        ensures ok { IfOk result (λ r. (r.0.lane ≡ lane) × (r.0.number ≡ number) × P.fits seat.old.view.size r.1
+            × (job_times lane seat.old.view.jobs ≡ 0)
+            × (SpeaksForAll seat.old.view → GivenBelow seat.old.view lane number)
+            × (seat.new.view ≡ after_take seat.old.view lane number r.1)) }
         ensures held { IfOk result (λ r. HoldsJob seat.new.view r.0.lane r.0.number) }
-        ensures lost { IfErr result (λ e. (e.found ≢ 4 * number + 1) × (seat.new.view ≡ looked lane e.found seat.old.view)) }
+        ensures lost { IfErr result (λ e. (e.found ≢ 4 * number + 1)
+            × (seat.new.view ≡ looked lane e.found seat.old.view)) }
     {
         let shared = &self.table.shared;
         let word = 4 * number as u64 + 1;
@@ -120,7 +127,8 @@ impl<P: Fits + Drop, Q: Drop> Tags<P, Q> {
         requires own { seat.old.table ≡ self.now }
         requires holds { HoldsJob seat.old.view job.lane job.number }
         ensures same { (seat.new.table ≡ seat.old.table) × (seat.new.id ≡ seat.old.id) }
-        ensures given { (a : P) × (seat.new.view ≡ after_answer seat.old.view job.lane job.number a outcome) × ((i : ℕ) × (get_elem? seat.old.view.jobs i ≡ some (held job.lane job.number a))) }
+        ensures given { (a : P) × (seat.new.view ≡ after_answer seat.old.view job.lane job.number a outcome)
+            × In (held job.lane job.number a) seat.old.view.jobs }
     {
         let Job { lane, number } = job;
         let shared = &self.table.shared;
@@ -139,7 +147,8 @@ impl<P: Fits + Drop, Q: Drop> Tags<P, Q> {
 fn bring<P, Q>(seat: &mut Seat<Slot<P, Q>, View<P, Q>>, held: &mut ArrayVec<u32, 16>, lane: u32)
     requires carried { seat.old.me.1 ≡ with_empty held.old.items }
     requires has { 0 < times (λ x. x == lane) held.old.items }
-    ensures same { (seat.new.table_id ≡ seat.old.table_id) × (seat.new.id ≡ seat.old.id) × (seat.new.me ≡ (seat.old.me.0, with_empty held.new.items)) }
+    ensures same { (seat.new.table_id ≡ seat.old.table_id) × (seat.new.id ≡ seat.old.id)
+        × (seat.new.me ≡ (seat.old.me.0, with_empty held.new.items)) }
     ensures turned { IsTurn held.old.items held.new.items }
     ensures first { held.new.items ≡ lane ∷ drop 1 held.new.items }
 {

@@ -35,7 +35,8 @@ fn gather_lanes<P: Fits + Drop, Q: Drop>(
     ensures same { (into.new.table_id ≡ into.old.table_id) × (into.new.me.1 ≡ into.old.me.1) }
     ensures gathers { Gathers into.old.me.0 lanes.items into.new.me.0 }
     ensures lanes { HasLanes lanes.items into.new.me.0 }
-    ensures kept { (into.new.me.0.given ≡ into.old.me.0.given) × (into.new.me.0.jobs ≡ into.old.me.0.jobs) × (into.new.me.0.servers ≡ into.old.me.0.servers) }
+    ensures kept { (into.new.me.0.given ≡ into.old.me.0.given) × (into.new.me.0.jobs ≡ into.old.me.0.jobs)
+        × (into.new.me.0.servers ≡ into.old.me.0.servers) }
 {
     for lane in lanes {
         let LaneSeat {
@@ -50,7 +51,8 @@ fn gather_lanes<P: Fits + Drop, Q: Drop>(
 
 // A look, by which a seat that speaks for every lane, where all are idle, learns that it holds no job.
 fn settle<P: Fits + Drop, Q: Drop>(table: &TagTable<P, Q>, seat: &mut Seat<Slot<P, Q>, View<P, Q>>)
-    requires own { (seat.old.table_id ≡ table.now.shared.table_id) × (0 < table.now.shared.table_id.slots) × (table.now.shared.table_id.words ≡ table.now.shared.table_id.slots) }
+    requires own { (seat.old.table_id ≡ table.now.shared.table_id) × (0 < table.now.shared.table_id.slots)
+        × (table.now.shared.table_id.words ≡ table.now.shared.table_id.slots) }
     requires free { SpeaksForIdle table.now.shared.table_id.slots seat.old.me.0 ⊎ (seat.old.me.0.jobs ≡ []) }
     ensures same { (seat.new.table_id ≡ seat.old.table_id) × (seat.new.me.1 ≡ seat.old.me.1) }
     ensures looked { (word : ℕ) × (seat.new.me.0 ≡ looked 0 word seat.old.me.0) }
@@ -65,8 +67,10 @@ fn gather_servers<P: Fits + Drop, Q: Drop>(
     first: Seat<Slot<P, Q>, View<P, Q>>,
     servers: Vec<ServerSeat<P, Q>>,
 ) -> Seat<Slot<P, Q>, View<P, Q>>
-    requires own { (first.table_id ≡ table.now.shared.table_id) × (0 < table.now.shared.table_id.slots) × (table.now.shared.table_id.words ≡ table.now.shared.table_id.slots) }
-    requires theirs { Numbered (λ i s. AtTable table.now.shared.table_id s × (s.view.servers ≡ first.me.0.servers)) servers.items }
+    requires own { (first.table_id ≡ table.now.shared.table_id) × (0 < table.now.shared.table_id.slots)
+        × (table.now.shared.table_id.words ≡ table.now.shared.table_id.slots) }
+    requires theirs { Numbered (λ i s. AtTable table.now.shared.table_id s × (s.view.servers ≡ first.me.0.servers))
+        servers.items }
     requires live { (first.me.0.live ≡ true) × (first.me.0.hand ≡ []) }
     requires bare { (first.me.0.jobs ≡ []) × (first.me.1 ≡ []) }
     requires free { SpeaksForIdle table.now.shared.table_id.slots first.me.0 ⊎ NoJobs servers.items }
@@ -92,7 +96,8 @@ fn words_of<P: Drop, Q: Drop>(
     count: usize,
 ) -> ArrayVec<u64, 16>
     requires full { IsFull closed.now.words }
-    requires count { (slots_len closed.now.words ≡ count) × (length (slots_items closed.now.words) ≡ count) × (count ≤ 16) }
+    requires count { (slots_len closed.now.words ≡ count) × (length (slots_items closed.now.words) ≡ count)
+        × (count ≤ 16) }
     ensures { result.items ≡ slots_items closed.entry.now.words }
 {
     let mut words = ArrayVec::new();
@@ -123,7 +128,8 @@ impl<P: Fits + Drop, Q: Drop> Tags<P, Q> {
         mut servers: Vec<ServerSeat<P, Q>>,
     ) -> ArrayVec<u64, 16>
         requires lanes { (length lanes.items ≡ lanes_of self) × Numbered (IsLaneAt self) lanes.items }
-        requires servers { (0 < length servers.items) × Numbered (IsServerAt self (length servers.items)) servers.items }
+        requires servers { (0 < length servers.items)
+            × Numbered (IsServerAt self (length servers.items)) servers.items }
         requires free { AllIdle lanes.items ⊎ NoJobs servers.items }
         ensures words { length result.items ≡ lanes_of self }
         ensures last { Numbered (λ i s. IsLastWord (slice_index result.items i) (lane_of s.view)) lanes.items }

@@ -51,7 +51,8 @@ fn made<P: Fits + Drop, Q: Drop>(
     opening: Opening,
 ) -> Result<(TagTable<P, Q>, Seat<Slot<P, Q>, View<P, Q>>), AllocError>
     requires { (0 < opening.lanes) × (opening.lanes ≤ 16) }
-    ensures counts { IfOk result (λ r. (r.0.shared.table_id.slots ≡ opening.lanes) × (r.0.shared.table_id.words ≡ opening.lanes)) }
+    ensures counts { IfOk result (λ r. (r.0.shared.table_id.slots ≡ opening.lanes)
+        × (r.0.shared.table_id.words ≡ opening.lanes)) }
     ensures seat { IfOk result (λ r. (r.1.table_id ≡ r.0.shared.table_id) × (r.1.me ≡ (whole opening, []))) }
 {
     let words = [0u64; 16];
@@ -69,10 +70,13 @@ fn lane_seats<P: Fits + Drop, Q: Drop>(
     first: &mut Seat<Slot<P, Q>, View<P, Q>>,
     opening: Opening,
 ) -> Result<Vec<LaneSeat<P, Q>>, AllocError>
-    requires own { (first.old.table_id ≡ table.now.shared.table_id) × (opening.lanes ≡ table.now.shared.table_id.slots) × (0 < table.now.shared.table_id.words) }
+    requires own { (first.old.table_id ≡ table.now.shared.table_id) × (opening.lanes ≡ table.now.shared.table_id.slots)
+        × (0 < table.now.shared.table_id.words) }
     requires whole { first.old.me ≡ (first_view opening.lanes opening.servers opening.size 0 0, []) }
-    ensures first { IfOk result (λ _. (first.new.table_id ≡ first.old.table_id) × (first.new.me ≡ (first_view opening.lanes opening.servers opening.size opening.lanes 0, []))) }
-    ensures seats { IfOk result (λ v. (length v.items ≡ opening.lanes) × Numbered (IsFirstLane first.old.table_id opening.servers opening.size) v.items) }
+    ensures first { IfOk result (λ _. (first.new.table_id ≡ first.old.table_id)
+        × (first.new.me ≡ (first_view opening.lanes opening.servers opening.size opening.lanes 0, []))) }
+    ensures seats { IfOk result (λ v. (length v.items ≡ opening.lanes)
+        × Numbered (IsFirstLane first.old.table_id opening.servers opening.size) v.items) }
 {
     let mut seats = Vec::new(alloc);
     for lane in 0..opening.lanes {
@@ -94,10 +98,12 @@ fn server_seats<P: Fits + Drop, Q: Drop>(
     first: &mut Seat<Slot<P, Q>, View<P, Q>>,
     opening: Opening,
 ) -> Result<Vec<ServerSeat<P, Q>>, AllocError>
-    requires own { (first.old.table_id ≡ table.now.shared.table_id) × (opening.lanes ≡ table.now.shared.table_id.slots) × (0 < table.now.shared.table_id.words) }
+    requires own { (first.old.table_id ≡ table.now.shared.table_id) × (opening.lanes ≡ table.now.shared.table_id.slots)
+        × (0 < table.now.shared.table_id.words) }
     requires few { opening.lanes ≤ 16 }
     requires whole { first.old.me ≡ (first_view opening.lanes opening.servers opening.size opening.lanes 0, []) }
-    ensures { IfOk result (λ v. (length v.items ≡ opening.servers) × Numbered (IsFirstServer first.old.table_id opening.servers opening.size) v.items) }
+    ensures { IfOk result (λ v. (length v.items ≡ opening.servers)
+        × Numbered (IsFirstServer first.old.table_id opening.servers opening.size) v.items) }
 {
     let mut seats = Vec::new(alloc);
     for _server in 0..opening.servers {
@@ -122,9 +128,12 @@ impl<P: Fits + Drop, Q: Drop> Tags<P, Q> {
         requires lanes { (0 < lanes) × (lanes ≤ 16) }
         requires servers { (0 < servers) × (servers ≤ 8) }
         ensures tags { IfOk result (λ r. lanes_of r.0 ≡ lanes) }
-        ensures lanes { IfOk result (λ r. (length r.1.items ≡ lanes) × Numbered (IsFirstLane r.0 servers size) r.1.items) }
-        ensures servers { IfOk result (λ r. (length r.2.items ≡ servers) × Numbered (IsFirstServer r.0 servers size) r.2.items) }
-        ensures by_index { IfOk result (λ r. ByIndex (IsFirstLane r.0 servers size) r.1.items × ByIndex (IsFirstServer r.0 servers size) r.2.items) }
+        ensures lanes { IfOk result (λ r. (length r.1.items ≡ lanes)
+            × Numbered (IsFirstLane r.0 servers size) r.1.items) }
+        ensures servers { IfOk result (λ r. (length r.2.items ≡ servers)
+            × Numbered (IsFirstServer r.0 servers size) r.2.items) }
+        ensures by_index { IfOk result (λ r. ByIndex (IsFirstLane r.0 servers size) r.1.items
+            × ByIndex (IsFirstServer r.0 servers size) r.2.items) }
     {
         let opening = Opening {
             lanes,

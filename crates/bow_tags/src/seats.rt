@@ -19,7 +19,8 @@ impl<P: Fits, Q> Model for Tags<P, Q> {
 
     ghost view = { λ t. t.table.shared.table_id };
 
-    ghost invariant = { λ t. (t.table.shared.table_id.words ≡ t.table.shared.table_id.slots) × (0 < t.table.shared.table_id.slots) × (t.table.shared.table_id.slots ≤ 16) };
+    ghost invariant = { λ t. (t.table.shared.table_id.words ≡ t.table.shared.table_id.slots)
+        × (0 < t.table.shared.table_id.slots) × (t.table.shared.table_id.slots ≤ 16) };
 }
 
 /// The seat of one lane, with which it posts and polls.
@@ -39,7 +40,8 @@ impl<P, Q> Model for LaneSeat<P, Q> {
 
     ghost view = { λ s. record { table = s.seat.table_id; id = s.seat.id; view = s.seat.me.0 } };
 
-    ghost invariant = { λ s. (s.seat.me.1 ≡ []) × IsLaneSeat s.seat.table_id.slots s.lane s.number s.posted s.seat.me.0 };
+    ghost invariant = { λ s. (s.seat.me.1 ≡ [])
+        × IsLaneSeat s.seat.table_id.slots s.lane s.number s.posted s.seat.me.0 };
 }
 
 /// The seat of one server, with which it looks, takes and answers, with the lanes whose jobs it holds in the

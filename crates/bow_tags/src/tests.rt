@@ -2,7 +2,7 @@ ghost use Rattle.std.specs.Prelude.{◌≡◌, ◌+◌, ◌<◌, ◌≤◌, [], 
 ghost use Rattle.bow_tags.specs.declared.view.Stance.TheVariants.{Idle, Posted};
 ghost use Rattle.bow_tags.specs.Steps.{lane_of};
 ghost use Rattle.bow_tags.specs.Rule.{new_view, fresh_lane};
-ghost use Rattle.bow_tags.specs.Seats.{lanes_of};
+ghost use Rattle.bow_tags.specs.Seats.{lanes_of, HasNotPosted};
 
 use crate::{Fits, LaneSeat, Reply, ServerSeat, Tags};
 use arrayvec::ArrayVec;
@@ -94,7 +94,8 @@ fn close_all(
 ) -> Result<ArrayVec<u64, 16>, AllocError>
     requires own { (lane.table ≡ tags) × (first.table ≡ tags) × (second.table ≡ tags) × (lanes_of tags ≡ 1) }
     requires lane { ((lane_of lane.view).lane ≡ 0) × ((lane_of lane.view).stance ≡ Idle) }
-    requires servers { (first.view.speaks ≡ 0 ∷ []) × (first.view.servers ≡ 2) × (second.view.speaks ≡ 1 ∷ []) × (second.view.servers ≡ 2) }
+    requires servers { (first.view.speaks ≡ 0 ∷ []) × (first.view.servers ≡ 2)
+        × (second.view.speaks ≡ 1 ∷ []) × (second.view.servers ≡ 2) }
 {
     let mut lanes = Vec::new(alloc);
     lanes.push(lane)?;
@@ -132,7 +133,7 @@ fn run_lane<R: Wait>(
     right: &mut u32,
 )
     requires own { seat.old.table ≡ tags.now }
-    requires fresh { ((lane_of seat.old.view).stance ≡ Idle) × ((lane_of seat.old.view).number ≡ 0) × (seat.old.view.size ≡ 100) }
+    requires fresh { HasNotPosted 100 seat.old.view }
     requires lane { lane < 2 }
 {
     for number in 0..3 {
@@ -246,7 +247,7 @@ fn lane_worker(tags: &Tags<Question, u32>, seat: LaneSeat<Question, u32>, number
     requires own { seat.table ≡ tags.now }
     requires first { seat.view ≡ new_view 2 2 100 (fresh_lane number ∷ []) [] }
     ensures number { result.number ≡ number }
-    ensures lane { IfSome result.lane (λ s. (s.table ≡ tags.now) × ((lane_of s.view).stance ≡ Idle) × ((lane_of s.view).number ≡ 0) × (s.view.size ≡ 100)) }
+    ensures lane { IfSome result.lane (λ s. (s.table ≡ tags.now) × HasNotPosted 100 s.view) }
     ensures server { IfSome result.server (λ s. s.table ≡ tags.now) }
 {
     Worker {
@@ -261,7 +262,7 @@ fn lane_worker(tags: &Tags<Question, u32>, seat: LaneSeat<Question, u32>, number
 fn server_worker(tags: &Tags<Question, u32>, seat: ServerSeat<Question, u32>) -> Worker
     requires own { seat.table ≡ tags.now }
     ensures number { result.number ≡ 0 }
-    ensures lane { IfSome result.lane (λ s. (s.table ≡ tags.now) × ((lane_of s.view).stance ≡ Idle) × ((lane_of s.view).number ≡ 0) × (s.view.size ≡ 100)) }
+    ensures lane { IfSome result.lane (λ s. (s.table ≡ tags.now) × HasNotPosted 100 s.view) }
     ensures server { IfSome result.server (λ s. s.table ≡ tags.now) }
 {
     Worker {
@@ -281,7 +282,7 @@ fn run_workers<R: Threads + Wait + Sync>(
 )
     requires lanes { lanes_of tags.now ≡ 2 }
     requires number { All (λ w. w.number < 2) workers.old }
-    requires lane { All (λ w. IfSome w.lane (λ s. (s.table ≡ tags.now) × ((lane_of s.view).stance ≡ Idle) × ((lane_of s.view).number ≡ 0) × (s.view.size ≡ 100))) workers.old }
+    requires lane { All (λ w. IfSome w.lane (λ s. (s.table ≡ tags.now) × HasNotPosted 100 s.view)) workers.old }
     requires server { All (λ w. IfSome w.server (λ s. s.table ≡ tags.now)) workers.old }
 {
     thread::for_each_mut(
@@ -295,7 +296,7 @@ fn run_workers<R: Threads + Wait + Sync>(
 fn run_worker<R: Wait>(rt: &R, tags: &Tags<Question, u32>, worker: &mut Worker, all: &Mutex<u32>)
     requires lanes { lanes_of tags.now ≡ 2 }
     requires number { worker.old.number < 2 }
-    requires lane { IfSome worker.old.lane (λ s. (s.table ≡ tags.now) × ((lane_of s.view).stance ≡ Idle) × ((lane_of s.view).number ≡ 0) × (s.view.size ≡ 100)) }
+    requires lane { IfSome worker.old.lane (λ s. (s.table ≡ tags.now) × HasNotPosted 100 s.view) }
     requires server { IfSome worker.old.server (λ s. s.table ≡ tags.now) }
 {
     if let Some(seat) = &mut worker.lane {

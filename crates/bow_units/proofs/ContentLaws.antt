@@ -1,5 +1,5 @@
 -- Which content a text tells.
-use Rattle.std.proofs.Common.{◌≡◌, ℕ, zero, suc, ◌+◌, ◌*◌, ◌-◌, ◌/◌, ◌%◌, ◌<◌, ◌^◌, List, [], ◌∷◌, ◌++◌, length, get_or, get_or-take, take, drop, replicate, refl, sym, ap, ◌∙◌, subst, arith, inl, inr}
+use Rattle.std.proofs.Common.{◌≡◌, ℕ, ◌+◌, ◌*◌, ◌-◌, ◌/◌, ◌%◌, ◌<◌, ◌^◌, List, [], ◌∷◌, ◌++◌, length, get_or, get_or-take, take, drop, replicate, refl, sym, ap, ◌∙◌, subst, arith, inl, inr}
 use Rattle.std.specs.Prelude.{◌==◌, ◌≢◌, true, false, nat_lt, if◌then◌else◌, codes}
 use Rattle.std.specs.List.{All}
 use Rattle.std.specs.Fmt.{decimal}
@@ -8,8 +8,10 @@ use Rattle.std.proofs.lemmas.List.{get_or_default, get_or-drop}
 use Rattle.std.proofs.lemmas.List.Elements.{All-head, All-tail, All-nil, All-cons}
 use Rattle.std.proofs.lemmas.Fmt.{decimal_injective, decimal_is_IsNumeral}
 use Rattle.std.proofs.lemmas.Str.Parse.{digit_at}
-use Rattle.bow_units.specs.Contents.{hex_digit, hex_text, are_zero, trimmed, pattern_text, content_text, TextsTellContents, PatternsAreTold}
+use Rattle.bow_units.specs.Blocks.{are_zero}
+use Rattle.bow_units.specs.Contents.{hex_digit, hex_text, trimmed, pattern_text, content_text, TextsTellContents, PatternsAreTold}
 use Rattle.bow_units.specs.Pattern.{pattern, pattern_group, IsPatternOf}
+use Rattle.bow_units.proofs.Bytes.{byte_at}
 use Rattle.bow_units.proofs.PatternGroups.{HasGroups, has_groups, group_at}
 use Rattle.bow_units.proofs.ContentTexts.{text_of_zero, text_of_pattern, text_of_other, parts_cases, not_zero_at}
 
@@ -24,7 +26,7 @@ digit_back n small = elim (cases_lt n 10) [
   | inr high ↦ ap digit_of (cond-false (nat_lt n 10) (48 + n) (87 + n) (le-ltb n 10 high)) ∙ cond-false (nat_lt (87 + n) 58) (87 + n - 48) (87 + n - 87) (le-ltb (87 + n) 58 (omega (arith, high))) ∙ omega arith
 ]
 
-hex_same : (xs ys : List ℕ) → All (λ b. b < 256) xs → All (λ b. b < 256) ys → hex_text xs ≡ hex_text ys → xs ≡ ys
+pub hex_same : (xs ys : List ℕ) → All (λ b. b < 256) xs → All (λ b. b < 256) ys → hex_text xs ≡ hex_text ys → xs ≡ ys
 hex_same [] [] p q is = refl
 hex_same [] (y ∷ ys) p q is = absurd (omega (arith, ap length is))
 hex_same (x ∷ xs) [] p q is = absurd (omega (arith, ap length is))
@@ -88,11 +90,6 @@ data Told (bytes : List ℕ) : List ℕ → Type 0 where
   OfZero : are_zero bytes ≡ true → Told bytes (codes "zero")
   OfPattern : (b s : ℕ) → IsPatternOf bytes b s → Told bytes (pattern_text b s)
   OfHex : Told bytes (codes "hex " ++ hex_text (trimmed bytes))
-
-byte_at : (bytes : List ℕ) → All (λ b. b < 256) bytes → (k : ℕ) → get_or bytes k 0 < 256
-byte_at [] p k = omega arith
-byte_at (b ∷ bytes) p zero = All-head (λ b. b < 256) b bytes p
-byte_at (b ∷ bytes) p (suc k) = byte_at bytes (All-tail (λ b. b < 256) b bytes p) k
 
 told : (bytes : List ℕ) → HasGroups (length bytes) → All (λ b. b < 256) bytes → Told bytes (content_text bytes)
 told bytes has small = elim (cases_Bool (are_zero bytes)) [

@@ -6,7 +6,8 @@ use Rattle.std.proofs.lemmas.Bool.{cases_Bool, cond-true, cond-false, and_parts,
 use Rattle.std.proofs.lemmas.Slice.Eq.{bytes_eq-Decides}
 use Rattle.byteorder.specs.Endian.{little_number}
 use Rattle.byteorder.specs.Numbers.{little_from-lt}
-use Rattle.bow_units.specs.Contents.{hex_text, are_zero, trimmed, if_pattern, pattern_parts, pattern_text, pattern_or_hex_text, content_text}
+use Rattle.bow_units.specs.Blocks.{are_zero}
+use Rattle.bow_units.specs.Contents.{hex_text, trimmed, if_pattern, pattern_parts, pattern_text, pattern_or_hex_text, content_text}
 use Rattle.bow_units.specs.Pattern.{pattern, IsPatternOf}
 use Rattle.bow_units.proofs.PatternGroups.{HasGroups, parts_of}
 

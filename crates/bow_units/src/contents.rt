@@ -1,7 +1,8 @@
 // How the content of a block is told.
 ghost use Rattle.std.specs.Prelude.{◌≡◌, ◌++◌, ◌<◌, length, OnOk, codes};
 ghost use Rattle.std.specs.String.{string_bytes};
-ghost use Rattle.bow_units.specs.Contents.{are_zero, content_text, hex_digit as hex_digit_of, hex_text, pattern_text, trimmed as trimmed_of, PatternsAreTold, TextsTellContents};
+ghost use Rattle.bow_units.specs.Blocks.{are_zero};
+ghost use Rattle.bow_units.specs.Contents.{content_text, hex_digit as hex_digit_of, hex_text, pattern_text, trimmed as trimmed_of, PatternsAreTold, TextsTellContents};
 ghost use Rattle.bow_units.specs.Sizes.{IsBlockSize};
 
 use crate::{NoMemory, pattern_of};
@@ -30,7 +31,8 @@ pub fn content_text_law()
     ensures patterns { PatternsAreTold }
 {}
 
-fn all_zero(bytes: &[u8]) -> bool
+/// Whether all these bytes are zero.
+pub fn all_zero(bytes: &[u8]) -> bool
     ensures { result ≡ are_zero bytes.now }
 {
     bytes.iter().all(|byte| *byte == 0)
@@ -71,7 +73,8 @@ fn trimmed(bytes: &[u8]) -> &[u8]
     &[]
 }
 
-fn push_hex(out: &mut String, bytes: &[u8]) -> Result<(), NoMemory>
+/// Adds two lower-case hexadecimal digits for each byte. After `NoMemory` the text holds a part.
+pub fn push_hex(out: &mut String, bytes: &[u8]) -> Result<(), NoMemory>
     ensures { OnOk result (string_bytes out.new ≡ string_bytes out.old ++ hex_text bytes.now) }
 {
     for byte in bytes {
@@ -81,7 +84,8 @@ fn push_hex(out: &mut String, bytes: &[u8]) -> Result<(), NoMemory>
     Ok(())
 }
 
-fn hex_digit(n: u8) -> char
+/// The lower-case hexadecimal digit of a number below 16.
+pub fn hex_digit(n: u8) -> char
     requires { n < 16 }
     ensures value { result ≡ hex_digit_of n }
     ensures ascii { result < 128 }

@@ -18,11 +18,11 @@ mod streams;
 #[cfg(test)]
 mod tests;
 
-pub use contents::{content_text_law, push_content};
+pub use contents::{all_zero, content_text_law, hex_digit, push_content, push_hex};
 pub use draws::Draws;
 pub use failures::{Failed, NoMemory};
 pub use gates::{Gate, OpenGate};
-pub use magics::has_magic;
+pub use magics::{LOG_MAGIC, RESTORING_MAGIC, has_magic};
 pub use memory_ends::{MemSink, MemSource};
 pub use numbers::read_number;
 pub use patterns::{fill_pattern, pattern_of};

@@ -1,6 +1,7 @@
+// Worked values, and the ends in memory.
 use crate::{
-    Draws, Extent, Failed, Geometry, MemSink, MemSource, ReadSource, Sink, Source, WriteSink,
-    fill_pattern, has_magic, pattern_of, push_content, read_number,
+    Draws, Extent, Failed, Geometry, MemSink, MemSource, Sink, Source, fill_pattern, has_magic,
+    pattern_of, push_content, read_number,
 };
 use std::test::Fail;
 
@@ -72,16 +73,6 @@ fn a_listed_put_fails_and_one_beyond_the_room(rt: HostRuntime) -> Result<(), Fai
     assert_eq!(rt; sink.put(b"c"), Ok(1));
     assert_eq!(rt; sink.bytes(), b"abc".as_slice());
     Ok(())
-}
-
-#[test]
-fn adapters_pass_bytes_on(rt: HostRuntime) {
-    let mut source = ReadSource::new(b"ab".as_slice());
-    let mut into = [0u8; 4];
-    assert_eq!(rt; source.take(&mut into), Ok(2));
-    assert_eq!(rt; into, [b'a', b'b', 0, 0]);
-    let mut sink = WriteSink::new(Vec::new(rt.alloc()));
-    assert_eq!(rt; sink.put(b"abc"), Ok(3));
 }
 
 #[test]

@@ -1,4 +1,4 @@
-use Rattle.bow_log.proofs.InBlocks.{in_blocks, in_sectors, block_gives, block_takes}
+use Rattle.bow_log.proofs.InBlocks.{in_blocks, in_sectors, block_gives, block_fits, block_takes}
 use Rattle.bow_log.proofs.laws.generation_law.Goals as goal
 
 pub returns-clause-in_blocks : goal.returns-clause-in_blocks
@@ -12,3 +12,6 @@ returns-clause-read c = block_gives
 
 pub returns-clause-spelled : goal.returns-clause-spelled
 returns-clause-spelled c = block_takes
+
+pub returns-clause-fits : goal.returns-clause-fits
+returns-clause-fits c = block_fits

@@ -1,6 +1,7 @@
 use Rattle.std.proofs.Common.{◌≡◌, ◌++◌, length, sym, ◌∙◌, true, false, codes, arith}
 use Rattle.std.specs.String.{string_bytes}
-use Rattle.bow_units.specs.Contents.{are_zero, hex_text, pattern_text, trimmed, content_text}
+use Rattle.bow_units.specs.Blocks.{are_zero}
+use Rattle.bow_units.specs.Contents.{hex_text, pattern_text, trimmed, content_text}
 use Rattle.bow_units.proofs.PatternGroups.{has_groups}
 use Rattle.bow_units.proofs.ContentTexts.{text_of_zero, text_of_pattern, text_of_other, parts_none, told_as}
 use Rattle.bow_units.proofs.contents.push_content.Goals as goal

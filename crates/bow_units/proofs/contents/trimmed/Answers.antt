@@ -1,5 +1,5 @@
 use Rattle.std.proofs.Common.{◌≡◌, ◌-◌, suc, sym, ap, ◌∙◌, take, drop, true, arith}
-use Rattle.bow_units.specs.Contents.{are_zero}
+use Rattle.bow_units.specs.Blocks.{are_zero}
 use Rattle.bow_units.proofs.ContentTexts.{trimmed_at, trimmed_zero, more_zeros}
 use Rattle.bow_units.proofs.contents.trimmed.Goals as goal
 

@@ -1,5 +1,5 @@
 use Rattle.std.proofs.Common.{◌≡◌, ◌≤◌, length, drop, true}
-use Rattle.bow_units.specs.Contents.{are_zero}
+use Rattle.bow_units.specs.Blocks.{are_zero}
 use Rattle.bow_units.proofs.contents.trimmed.Given as goal
 
 abbrev pub invariant-loop-end : goal.invariant-loop-end

@@ -27,7 +27,7 @@ invariant_of-self c =
     let whole : length c.args.from.now ≡ h.geometry.block_size = omega (arith, c.requires.whole) in
     let at = c.args.at * h.geometry.block_size in
     let m : Mark = record { call = c.args.call; block = c.args.at; flushed = None } in
-    written_layout h.geometry h.first.items h.bytes.items h.marks.items h.values.items h.room _ _ c.self.invariant m c.args.from.now (omega (arith, c.requires.within)) whole refl
+    written_layout h.geometry h.first.items h.bytes.items h.marks.items h.values.items h.room h.settled _ _ c.self.invariant m c.args.from.now (omega (arith, c.requires.within)) whole refl
     c.push_reserved.new.self.items c.append.new.values.items c.put.new.bytes.items _ _ c.push_reserved.ensures.items c.append.ensures.items
     (c.put.ensures ∙ ap (λ k. take at h.bytes.items ++ (c.args.from.now ++ drop (at + k) h.bytes.items)) whole) spare c.push_reserved.ensures.capacity c.append.ensures.capacity
 
@@ -40,5 +40,5 @@ returns c =
     let m : Mark = record { call = c.args.call; block = c.args.at; flushed = None } in
     with_writes h.geometry (image_of h.geometry h.first.items) (changes h.geometry.block_size h.marks.items h.values.items) (changes h.geometry.block_size c.push_reserved.new.self.items c.append.new.values.items) h.room c.args.self.now
     (λ ws. ws ++ record { call = c.args.call; block = c.args.at; value = c.args.from.now; flushed = None } ∷ []) c.self.view_is
-    (written_changes h.geometry h.first.items h.bytes.items h.marks.items h.values.items h.room _ _ c.self.invariant m c.args.from.now (omega (arith, c.requires.within)) whole refl
+    (written_changes h.geometry h.first.items h.bytes.items h.marks.items h.values.items h.room h.settled _ _ c.self.invariant m c.args.from.now (omega (arith, c.requires.within)) whole refl
     c.push_reserved.new.self.items c.append.new.values.items c.push_reserved.ensures.items c.append.ensures.items)

@@ -8,6 +8,6 @@ invariant_of-self-inside-2 c =
     let h = c.self.inside in
     let is = c.failure_of-failure.ensures ∙ ap (λ l. failure_after l h.stop h.calls) c.deref.ensures.value in
     let none = sym c.is_some.ensures ∙ c.if-is_some.false in (
-      flushed_parts h.history c.flush.new.self h.calls c.saturating_add-self-inside.result h.failing.items h.stop h.faults h.fit c.failure_of-failure.result is none c.saturating_add-self-inside.ensures c.flush.ensures,
+      flushed_parts h.history c.flush.new.self h.calls c.saturating_add-self-inside.result h.failing.items h.stop h.faults h.sizeless h.fit c.failure_of-failure.result is none c.saturating_add-self-inside.ensures c.flush.ensures,
       tt,
     )

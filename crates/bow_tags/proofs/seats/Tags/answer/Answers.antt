@@ -6,8 +6,8 @@ use Rattle.bow_tags.specs.declared.view.Slot.{Slot}
 use Rattle.bow_tags.specs.declared.view.Slot.TheVariants.{Answer}
 use Rattle.bow_tags.specs.declared.view.View.{View}
 use Rattle.bow_tags.specs.Rule.{Rule}
-use Rattle.bow_tags.specs.Steps.{answers, held, HoldsJob}
-use Rattle.bow_tags.specs.Seats.{after_answer, with_empty}
+use Rattle.bow_tags.specs.Steps.{after_answer, answers, held, HoldsJob}
+use Rattle.bow_tags.specs.Seats.{with_empty}
 use Rattle.bow_tags.proofs.Keeps.{is_here}
 use Rattle.bow_tags.proofs.Lists.{times_at}
 use Rattle.bow_tags.proofs.Serves.{answer_allowed}

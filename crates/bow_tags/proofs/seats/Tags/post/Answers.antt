@@ -10,9 +10,19 @@ use Rattle.bow_tags.specs.declared.view.Slot.{Slot}
 use Rattle.bow_tags.specs.declared.view.View.{View}
 use Rattle.bow_tags.proofs.Tally.{asked_last, same_ask}
 use Rattle.bow_tags.proofs.Keeps.{hold_allowed, post_allowed}
+use Rattle.bow_tags.proofs.seats.Tags.post.Given.{Over}
 use Rattle.bow_tags.proofs.seats.Tags.post.Goals as goal
+use Rattle.bow_tags.proofs.seats.Tags.post.Goals.{After-exchange}
 
--- src/seats.rt:59:9
+module _ (g : Over) where
+  -- the seat is holding, and carries the lane's slot with the ask in it
+  carries : (c : After-exchange g) → c.exchange.new.seat.me ≡ (with_lane (record (lane_of c.seat.inside.seat.me.0) { stance = Holding }) c.seat.inside.seat.me.0, (c.seat.inside.lane, Ask c.args.ask) ∷ [])
+  carries c =
+      let M : Type 0 = Me (Slot g.row.P.Denot g.row.Q.Denot) (View g.row.P.Denot g.row.Q.Denot) in
+      let l : ℕ = c.seat.inside.lane in
+      let v = with_lane (record (lane_of c.seat.inside.seat.me.0) { stance = Holding }) c.seat.inside.seat.me.0 in
+      c.exchange.ensures.3 ∙ ap (λ (m : M). (m.0, (l, Ask c.args.ask) ∷ rest m.1)) (c.load.ensures.2 ∙ ap (λ cs. (v, (l, Empty) ∷ cs)) c.seat.invariant.0)
+
 pub load-requires : goal.load-requires
 load-requires g c =
     let sit = c.seat.invariant.1 in
@@ -24,7 +34,6 @@ load-requires g c =
           near sit.one sit.lane (ap (λ z. (lane_of z.view).stance) c.seat.view_is ∙ c.requires.idle) sit.empty,
     )
 
--- src/seats.rt:64:9
 pub compare_exchange-requires : goal.compare_exchange-requires
 compare_exchange-requires g c =
     let sit = c.seat.invariant.1 in
@@ -35,7 +44,7 @@ compare_exchange-requires g c =
     let k : ℕ = c.seat.inside.number in
     let v0 = c.seat.inside.seat.me.0 in
     let v = with_lane (record (lane_of v0) { stance = Holding }) v0 in
-    let is : c.exchange.new.seat.me ≡ (v, (l, Ask c.args.ask) ∷ []) = c.exchange.ensures.3 ∙ ap (λ m. (m.0, (l, Ask c.args.ask) ∷ rest m.1)) (c.load.ensures.2 ∙ ap (λ cs. (v, (l, Empty) ∷ cs)) c.seat.invariant.0) in
+    let is = carries g (goal.at.compare_exchange-requires g c).After-exchange in
     let number : 4 * k ≡ 4 * (lane_of v0).number = ap (λ (z : ℕ). 4 * z) (sym sit.number) in (
       c.exchange.ensures.0 ∙ (c.load.ensures.0 ∙ own),
       subst (λ (z : ℕ). l < z) (sym c.self.invariant.0) near,
@@ -51,8 +60,7 @@ returns-clause-asks g c =
     let l : ℕ = c.seat.inside.lane in
     let did = c.compare_exchange.ensures.2 in
     let M : Type 0 = Me (Slot g.row.P.Denot g.row.Q.Denot) (View g.row.P.Denot g.row.Q.Denot) in
-    let v = with_lane (record (lane_of v0) { stance = Holding }) v0 in
-    let is : c.exchange.new.seat.me ≡ (v, (l, Ask c.args.ask) ∷ []) = c.exchange.ensures.3 ∙ ap (λ (m : M). (m.0, (l, Ask c.args.ask) ∷ rest m.1)) (c.load.ensures.2 ∙ ap (λ cs. (v, (l, Empty) ∷ cs)) c.seat.invariant.0) in
+    let is = carries g (goal.at.returns-clause-asks g c).After-exchange in
     let slots_are : (l, Ask c.args.ask) ∷ [] ≡ (l, Ask did.0) ∷ rest c.exchange.new.seat.me.1 = sym (ap (λ (m : M). m.1) is) ∙ did.1 in
     let same : did.0 ≡ c.args.ask = same_ask l c.args.ask did.0 [] (rest c.exchange.new.seat.me.1) slots_are in
     asked_last v0 c.compare_exchange.new.seat.me.0 l c.seat.inside.number c.seat.inside.posted c.seat.inside.seat.table_id.slots c.args.ask c.seat.invariant.1

@@ -1,0 +1,13 @@
+pub mod Rows
+pub mod Runs
+pub mod Pieces
+pub mod Descents
+pub mod Rooms
+pub mod Fits
+pub mod Picks
+pub mod Around
+pub mod RunSteps
+pub mod Puts
+pub mod Changes
+pub mod Tables
+pub mod Visits

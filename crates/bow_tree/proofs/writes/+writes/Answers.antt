@@ -1,0 +1,229 @@
+use Rattle.std.proofs.Common.{◌≡◌, suc, ◌-◌, ◌<◌, ◌≤◌, min, List, ◌++◌, length, replicate, get_or, sym, ap, ◌∙◌, subst, arith}
+use Rattle.bow_tree.specs.declared.parts.Part.{Part}
+use Rattle.bow_tree.specs.Rows.{flat, put}
+use Rattle.bow_tree.specs.Parts.{no_part, IsKnown}
+use Rattle.bow_tree.specs.Trees.{Store, blocks_of, room_of, below_root, first_tree, other_trees, rows_of, kinds_in, AreTrees, IsTree}
+use Rattle.bow_tree.specs.Rooms.{HasRoom, HaveRoom}
+use Rattle.bow_tree.proofs.Puts.{put_none, put_all}
+use Rattle.bow_tree.proofs.Descents.{tree_known, rows_known}
+use Rattle.bow_tree.proofs.Rooms.{first_roomy, other_roomy, open_roomy}
+use Rattle.bow_tree.proofs.Changes.{first_part, first_set, Cut, cut, seam, parts_put, parts_trees, alike_kinds, tall, shape, kept, Counts, counts_filled, counts_open, closed, closed_kinds, closed_tree, leaf_changed}
+use Rattle.bow_tree.proofs.writes.+writes.Goals.{set_in-else-from-eq0-via-then-from-eq0+else-to-size, set_in-else-from-eq0-via-else-from-eq0, set_in-then-known-size, set_in-else-known-size}
+use Rattle.bow_tree.proofs.writes.+writes.Goals as goal
+
+pub set_in-returns-then-from-to-clause-put : goal.set_in-returns-then-from-to-clause-put
+set_in-returns-then-from-to-clause-put t c = sym (put_none c.args.from c.args.to c.args.kind (kinds_in c.args.height c.args.known (c.args.parts.now, c.args.kinds.now)) c.if-from-to.true)
+
+pub set_in-returns-then-to-size-clause-put : goal.set_in-returns-then-to-size-clause-put
+set_in-returns-then-to-size-clause-put t c =
+    let h = c.args.height in
+    let tree : Store = (c.args.parts.now, c.args.kinds.now) in
+    let kinds = kinds_in h c.args.known tree in
+    let k = tree_known h c.args.known tree c.requires.tree in
+    let size = c.size_of-size.ensures.size in
+    let first = ap (λ (p : Part). p.first) c.alike.ensures.part ∙ ap (λ n. record { kind = c.args.kind; count = n }) size in
+    alike_kinds h c.args.kind c.alike.result tree first ∙ ap (λ n. replicate n c.args.kind) (sym k.sized)
+    ∙ sym (put_all c.args.to c.args.kind kinds (omega (arith, k.sized, size))) ∙ ap (λ n. put n c.args.to c.args.kind kinds) (sym c.if-from-eq0.true)
+
+pub set_in-returns-then-height-eq1-clause-tree : goal.set_in-returns-then-height-eq1-clause-tree
+set_in-returns-then-height-eq1-clause-tree t c =
+    (leaf_changed c.args.height c.args.from c.args.to c.args.kind c.args.known c.set_leaf.result c.args.parts.now c.args.kinds.now c.set_leaf.new.kinds c.if-height-eq1.true c.set_leaf.ensures.known c.set_leaf.ensures.put).0
+
+pub set_in-returns-then-height-eq1-clause-put : goal.set_in-returns-then-height-eq1-clause-put
+set_in-returns-then-height-eq1-clause-put t c =
+    (leaf_changed c.args.height c.args.from c.args.to c.args.kind c.args.known c.set_leaf.result c.args.parts.now c.args.kinds.now c.set_leaf.new.kinds c.if-height-eq1.true c.set_leaf.ensures.known c.set_leaf.ensures.put).1
+
+pub set_in-set_parts-requires : goal.set_in-set_parts-requires
+set_in-set_parts-requires t c =
+    let h = c.args.height in
+    let g = h - 1 in
+    let tree : Store = (c.args.parts.now, c.args.kinds.now) in
+    let size = c.size_of-size.ensures.size in
+    let high : 1 ≤ h = tall h c.args.from c.args.to c.if-from-to.false c.requires.inside (elim c.else-from-eq0.branch as (λ _. c.args.from ≡ 0 → c.args.to ≡ blocks_of h → ⊥) [
+      | set_in-else-from-eq0-via-then-from-eq0+else-to-size w ↦ λ e f. w.if-to-size.false (f ∙ sym size)
+      | set_in-else-from-eq0-via-else-from-eq0 w ↦ λ e f. w.if-from-eq0.false e
+    ]) in
+    let above : 1 ≤ h - 1 = omega (arith, high, c.if-height-eq1.false) in
+    let s = shape h high in
+    let k = kept g tree above in
+    let trees : Store = (c.split_at_mut-node.result.1.now, c.args.kinds.now) in
+    let behind : trees ≡ below_root g tree = ap (λ l. (l, c.args.kinds.now)) c.split_at_mut-node.ensures.back ∙ sym k.below in
+    let counts : Counts g (kinds_in h c.args.known tree) c.if-known-size.node trees = elim c.if-known-size.branch [
+      | set_in-then-known-size w ↦
+          let below = c.size_of-below.ensures.size in
+          let part = w.alike-then-known-size.result in
+          let first = ap (λ (p : Part). p.first) w.alike-then-known-size.ensures.part ∙ ap (λ n. record { kind = c.args.known.first.kind; count = n }) below in
+          let known_part = rw below at w.alike-then-known-size.ensures.known in
+          counts_filled h g c.args.known part tree c.if-known-size.node trees c.requires.tree s (w.if-known-size.true ∙ size) first known_part
+          (w.node-is ∙ w.fill.ensures ∙ ap (λ n. replicate n part) c.split_at_mut-node.ensures.front_len)
+      | set_in-else-known-size w ↦ counts_open h c.args.known tree c.if-known-size.node trees c.requires.tree (λ e. w.if-known-size.false (e ∙ sym size)) (w.node-is ∙ c.split_at_mut-node.ensures.front ∙ sym k.root) behind
+    ] in
+    let width : length c.if-known-size.node ≡ 16 = c.if-known-size.auto.node ∙ c.split_at_mut-node.ensures.front_len in
+    let room = open_roomy h c.args.to tree (omega (arith, above)) (omega (arith, c.if-from-to.false)) c.requires.room in
+    let roomy = subst (λ (l : Store). HaveRoom g c.args.to l) (ap (λ l. (l, c.args.kinds.now)) (sym c.split_at_mut-node.ensures.back)) room.1 in
+    (omega (arith, c.decreases, width, high), (above, (omega (arith, c.requires.height), (roomy, counts.trees_right))))
+
+pub set_in-known_of-requires-clause-known : goal.set_in-known_of-requires-clause-known
+set_in-known_of-requires-clause-known t c =
+    let g = c.args.height - 1 in
+    let after : Store = (c.set_parts.new.trees, c.set_parts.new.kinds) in (
+      rows_of (kinds_in g) g c.set_parts.new.parts after,
+      rw (c.size_of-below.ensures.size, c.of_parts.ensures) (rows_known g c.set_parts.new.parts after c.set_parts.ensures.trees),
+    )
+
+pub set_in-returns-clause-tree : goal.set_in-returns-clause-tree
+set_in-returns-clause-tree t c =
+    let h = c.args.height in
+    let g = h - 1 in
+    let tree : Store = (c.args.parts.now, c.args.kinds.now) in
+    let size = c.size_of-size.ensures.size in
+    let high : 1 ≤ h = tall h c.args.from c.args.to c.if-from-to.false c.requires.inside (elim c.else-from-eq0.branch as (λ _. c.args.from ≡ 0 → c.args.to ≡ blocks_of h → ⊥) [
+      | set_in-else-from-eq0-via-then-from-eq0+else-to-size w ↦ λ e f. w.if-to-size.false (f ∙ sym size)
+      | set_in-else-from-eq0-via-else-from-eq0 w ↦ λ e f. w.if-from-eq0.false e
+    ]) in
+    let above : 1 ≤ h - 1 = omega (arith, high, c.if-height-eq1.false) in
+    let s = shape h high in
+    let after : Store = (c.set_parts.new.trees, c.set_parts.new.kinds) in
+    let width : length c.set_parts.new.parts ≡ 16 = c.set_parts.auto.parts ∙ c.if-known-size.auto.node ∙ c.split_at_mut-node.ensures.front_len in
+    let rows = rows_of (kinds_in g) g c.set_parts.new.parts after in
+    let right = rows_known g c.set_parts.new.parts after c.set_parts.ensures.trees in
+    let known = rw (c.size_of-below.ensures.size, c.of_parts.ensures) at c.known_of.ensures in
+    let told : IsKnown (blocks_of (suc g)) (flat rows) c.known_of.result = known rows right in
+    let join = closed g c.set_parts.new.parts after above width in
+    subst (λ n. IsTree n c.known_of.result (c.set_parts.new.parts ++ after.0, after.1)) (sym s.next) (closed_tree g c.known_of.result c.set_parts.new.parts after (c.set_parts.new.parts ++ after.0, after.1) join c.set_parts.ensures.trees told)
+
+pub set_in-returns-clause-put : goal.set_in-returns-clause-put
+set_in-returns-clause-put t c =
+    let h = c.args.height in
+    let g = h - 1 in
+    let tree : Store = (c.args.parts.now, c.args.kinds.now) in
+    let size = c.size_of-size.ensures.size in
+    let high : 1 ≤ h = tall h c.args.from c.args.to c.if-from-to.false c.requires.inside (elim c.else-from-eq0.branch as (λ _. c.args.from ≡ 0 → c.args.to ≡ blocks_of h → ⊥) [
+      | set_in-else-from-eq0-via-then-from-eq0+else-to-size w ↦ λ e f. w.if-to-size.false (f ∙ sym size)
+      | set_in-else-from-eq0-via-else-from-eq0 w ↦ λ e f. w.if-from-eq0.false e
+    ]) in
+    let above : 1 ≤ h - 1 = omega (arith, high, c.if-height-eq1.false) in
+    let s = shape h high in
+    let k = kept g tree above in
+    let trees : Store = (c.split_at_mut-node.result.1.now, c.args.kinds.now) in
+    let behind : trees ≡ below_root g tree = ap (λ l. (l, c.args.kinds.now)) c.split_at_mut-node.ensures.back ∙ sym k.below in
+    let counts : Counts g (kinds_in h c.args.known tree) c.if-known-size.node trees = elim c.if-known-size.branch [
+      | set_in-then-known-size w ↦
+          let below = c.size_of-below.ensures.size in
+          let part = w.alike-then-known-size.result in
+          let first = ap (λ (p : Part). p.first) w.alike-then-known-size.ensures.part ∙ ap (λ n. record { kind = c.args.known.first.kind; count = n }) below in
+          let known_part = rw below at w.alike-then-known-size.ensures.known in
+          counts_filled h g c.args.known part tree c.if-known-size.node trees c.requires.tree s (w.if-known-size.true ∙ size) first known_part
+          (w.node-is ∙ w.fill.ensures ∙ ap (λ n. replicate n part) c.split_at_mut-node.ensures.front_len)
+      | set_in-else-known-size w ↦ counts_open h c.args.known tree c.if-known-size.node trees c.requires.tree (λ e. w.if-known-size.false (e ∙ sym size)) (w.node-is ∙ c.split_at_mut-node.ensures.front ∙ sym k.root) behind
+    ] in
+    let after : Store = (c.set_parts.new.trees, c.set_parts.new.kinds) in
+    let width : length c.set_parts.new.parts ≡ 16 = c.set_parts.auto.parts ∙ c.if-known-size.auto.node ∙ c.split_at_mut-node.ensures.front_len in
+    let rows = rows_of (kinds_in g) g c.set_parts.new.parts after in
+    let right = rows_known g c.set_parts.new.parts after c.set_parts.ensures.trees in
+    let known = rw (c.size_of-below.ensures.size, c.of_parts.ensures) at c.known_of.ensures in
+    let told : IsKnown (blocks_of (suc g)) (flat rows) c.known_of.result = known rows right in
+    let join = closed g c.set_parts.new.parts after above width in
+    ap (λ n. kinds_in n c.known_of.result (c.set_parts.new.parts ++ after.0, after.1)) s.next
+    ∙ closed_kinds g c.known_of.result c.set_parts.new.parts after (c.set_parts.new.parts ++ after.0, after.1) join told
+    ∙ c.set_parts.ensures.put ∙ ap (put c.args.from c.args.to c.args.kind) counts.kinds_right
+
+pub set_parts-set_in-requires : goal.set_parts-set_in-requires
+set_parts-set_in-requires t c =
+    let h = c.args.height in
+    let some : 0 < length c.args.parts.now = omega (arith, c.split_at_mut-part.ensures.back_len) in
+    let first : Part = get_or c.split_at_mut-part.result.0.now 0 no_part in
+    let others = c.split_at_mut-part.result.1.now in
+    let parts = first_part c.args.parts.now c.split_at_mut-part.result.0.now others some c.split_at_mut-part.ensures.front c.split_at_mut-part.ensures.back in
+    let all : Store = (c.args.trees.now, c.args.kinds.now) in
+    let trees = subst (λ (l : List Part). AreTrees (IsTree h) h l all) parts c.requires.trees in
+    let size = c.size_of-size.ensures.size in
+    let places : c.min.result ≡ min (room_of h) (length all.0) = c.min.ensures ∙ ap (λ n. min n (length all.0)) c.parts_of.ensures.room in
+    let blocks : c.min-2.result ≡ min (blocks_of h) (length all.1) = c.min-2.ensures ∙ ap (λ n. min n (length all.1)) size in
+    let low : Store = (c.split_at_mut-tree.result.0.now, c.split_at_mut-row.result.0.now) in
+    let rest : Store = (c.split_at_mut-tree.result.1.now, c.split_at_mut-row.result.1.now) in
+    let s : Cut h all low rest = cut h c.min.result c.min-2.result all low.0 rest.0 low.1 rest.1 places blocks c.split_at_mut-tree.ensures.front c.split_at_mut-tree.ensures.back c.split_at_mut-row.ensures.front c.split_at_mut-row.ensures.back in
+    let to_low : c.min-4.result ≡ min c.args.to (blocks_of h) = c.min-4.ensures ∙ ap (min c.args.to) size in
+    let roomy = first_roomy h c.args.to all c.requires.some c.requires.room in
+    let room = subst (λ n. HasRoom h n low) (sym to_low) (subst (HasRoom h (min c.args.to (blocks_of h))) (sym s.first) roomy) in
+    (omega (arith, c.decreases), (omega (arith, c.requires.height), (room, (subst (IsTree h first) (sym s.first) trees.0, omega (arith, to_low)))))
+
+pub set_parts-set_parts-requires : goal.set_parts-set_parts-requires
+set_parts-set_parts-requires t c =
+    let h = c.args.height in
+    let some : 0 < length c.args.parts.now = omega (arith, c.split_at_mut-part.ensures.back_len) in
+    let first : Part = get_or c.split_at_mut-part.result.0.now 0 no_part in
+    let others = c.split_at_mut-part.result.1.now in
+    let parts = first_part c.args.parts.now c.split_at_mut-part.result.0.now others some c.split_at_mut-part.ensures.front c.split_at_mut-part.ensures.back in
+    let all : Store = (c.args.trees.now, c.args.kinds.now) in
+    let trees = subst (λ (l : List Part). AreTrees (IsTree h) h l all) parts c.requires.trees in
+    let size = c.size_of-size.ensures.size in
+    let places : c.min.result ≡ min (room_of h) (length all.0) = c.min.ensures ∙ ap (λ n. min n (length all.0)) c.parts_of.ensures.room in
+    let blocks : c.min-2.result ≡ min (blocks_of h) (length all.1) = c.min-2.ensures ∙ ap (λ n. min n (length all.1)) size in
+    let low : Store = (c.split_at_mut-tree.result.0.now, c.split_at_mut-row.result.0.now) in
+    let rest : Store = (c.split_at_mut-tree.result.1.now, c.split_at_mut-row.result.1.now) in
+    let s : Cut h all low rest = cut h c.min.result c.min-2.result all low.0 rest.0 low.1 rest.1 places blocks c.split_at_mut-tree.ensures.front c.split_at_mut-tree.ensures.back c.split_at_mut-row.ensures.front c.split_at_mut-row.ensures.back in
+    let to : c.saturating_sub-to.result ≡ c.args.to - blocks_of h = c.saturating_sub-to.ensures ∙ ap (λ n. c.args.to - n) size in
+    let roomy = other_roomy h c.args.to all c.requires.some c.requires.room in
+    let room = subst (λ n. HaveRoom h n rest) (sym to) (subst (HaveRoom h (c.args.to - blocks_of h)) (sym s.others) roomy) in
+    (omega (arith, c.decreases, c.split_at_mut-part.ensures.back_len, some), (c.requires.some, (omega (arith, c.requires.height), (room, subst (AreTrees (IsTree h) h others) (sym s.others) trees.1))))
+
+pub set_parts-returns-clause-put : goal.set_parts-returns-clause-put
+set_parts-returns-clause-put t c =
+    let h = c.args.height in
+    let some : 0 < length c.args.parts.now = omega (arith, c.split_at_mut-part.ensures.back_len) in
+    let first : Part = get_or c.split_at_mut-part.result.0.now 0 no_part in
+    let others = c.split_at_mut-part.result.1.now in
+    let parts = first_part c.args.parts.now c.split_at_mut-part.result.0.now others some c.split_at_mut-part.ensures.front c.split_at_mut-part.ensures.back in
+    let all : Store = (c.args.trees.now, c.args.kinds.now) in
+    let trees = subst (λ (l : List Part). AreTrees (IsTree h) h l all) parts c.requires.trees in
+    let size = c.size_of-size.ensures.size in
+    let places : c.min.result ≡ min (room_of h) (length all.0) = c.min.ensures ∙ ap (λ n. min n (length all.0)) c.parts_of.ensures.room in
+    let blocks : c.min-2.result ≡ min (blocks_of h) (length all.1) = c.min-2.ensures ∙ ap (λ n. min n (length all.1)) size in
+    let low : Store = (c.split_at_mut-tree.result.0.now, c.split_at_mut-row.result.0.now) in
+    let rest : Store = (c.split_at_mut-tree.result.1.now, c.split_at_mut-row.result.1.now) in
+    let s : Cut h all low rest = cut h c.min.result c.min-2.result all low.0 rest.0 low.1 rest.1 places blocks c.split_at_mut-tree.ensures.front c.split_at_mut-tree.ensures.back c.split_at_mut-row.ensures.front c.split_at_mut-row.ensures.back in
+    let set_is = first_set c.args.parts.now c.split_at_mut-part.result.0.now c.set_in.result some c.split_at_mut-part.ensures.front in
+    let new_low : Store = (c.set_in.new.parts, c.set_in.new.kinds) in
+    let new_rest : Store = (c.set_parts.new.trees, c.set_parts.new.kinds) in
+    let join = seam h (length all.0) (length all.1) new_low new_rest (c.set_in.auto.parts ∙ c.split_at_mut-tree.ensures.front_len ∙ places) (omega (arith, c.set_parts.auto.trees, c.split_at_mut-tree.ensures.back_len, places))
+    (c.set_in.auto.kinds ∙ c.split_at_mut-row.ensures.front_len ∙ blocks) (omega (arith, c.set_parts.auto.kinds, c.split_at_mut-row.ensures.back_len, blocks)) in
+    let to_low : c.min-4.result ≡ min c.args.to (blocks_of h) = c.min-4.ensures ∙ ap (min c.args.to) size in
+    let from_low : c.min-3.result ≡ min c.args.from (blocks_of h) = c.min-3.ensures ∙ ap (min c.args.from) size in
+    let kinds = kinds_in h first (first_tree h all) in
+    let more = flat (rows_of (kinds_in h) h others (other_trees h all)) in
+    let from : c.saturating_sub-from.result ≡ c.args.from - blocks_of h = c.saturating_sub-from.ensures ∙ ap (λ n. c.args.from - n) size in
+    let to : c.saturating_sub-to.result ≡ c.args.to - blocks_of h = c.saturating_sub-to.ensures ∙ ap (λ n. c.args.to - n) size in
+    let one = c.set_in.ensures.put ∙ ap (λ (l : Store). put c.min-3.result c.min-4.result c.args.kind (kinds_in h first l)) s.first
+    ∙ ap (λ n. put n c.min-4.result c.args.kind kinds) from_low ∙ ap (λ n. put (min c.args.from (blocks_of h)) n c.args.kind kinds) to_low in
+    let on = c.set_parts.ensures.put ∙ ap (λ (l : Store). put c.saturating_sub-from.result c.saturating_sub-to.result c.args.kind (flat (rows_of (kinds_in h) h others l))) s.others
+    ∙ ap (λ n. put n c.saturating_sub-to.result c.args.kind more) from ∙ ap (λ n. put (c.args.from - blocks_of h) n c.args.kind more) to in
+    let sized = (tree_known h first (first_tree h all) trees.0).sized in
+    let after : Store = (new_low.0 ++ new_rest.0, new_low.1 ++ new_rest.1) in
+    ap (λ (l : List Part). flat (rows_of (kinds_in h) h (l ++ c.set_parts.new.parts) after)) set_is
+    ∙ parts_put h c.args.from c.args.to c.args.kind first c.set_in.result others c.set_parts.new.parts all new_low new_rest after join sized one on
+    ∙ ap (λ (l : List Part). put c.args.from c.args.to c.args.kind (flat (rows_of (kinds_in h) h l all))) (sym parts)
+
+pub set_parts-returns-clause-trees : goal.set_parts-returns-clause-trees
+set_parts-returns-clause-trees t c =
+    let h = c.args.height in
+    let some : 0 < length c.args.parts.now = omega (arith, c.split_at_mut-part.ensures.back_len) in
+    let first : Part = get_or c.split_at_mut-part.result.0.now 0 no_part in
+    let others = c.split_at_mut-part.result.1.now in
+    let parts = first_part c.args.parts.now c.split_at_mut-part.result.0.now others some c.split_at_mut-part.ensures.front c.split_at_mut-part.ensures.back in
+    let all : Store = (c.args.trees.now, c.args.kinds.now) in
+    let trees = subst (λ (l : List Part). AreTrees (IsTree h) h l all) parts c.requires.trees in
+    let size = c.size_of-size.ensures.size in
+    let places : c.min.result ≡ min (room_of h) (length all.0) = c.min.ensures ∙ ap (λ n. min n (length all.0)) c.parts_of.ensures.room in
+    let blocks : c.min-2.result ≡ min (blocks_of h) (length all.1) = c.min-2.ensures ∙ ap (λ n. min n (length all.1)) size in
+    let low : Store = (c.split_at_mut-tree.result.0.now, c.split_at_mut-row.result.0.now) in
+    let rest : Store = (c.split_at_mut-tree.result.1.now, c.split_at_mut-row.result.1.now) in
+    let s : Cut h all low rest = cut h c.min.result c.min-2.result all low.0 rest.0 low.1 rest.1 places blocks c.split_at_mut-tree.ensures.front c.split_at_mut-tree.ensures.back c.split_at_mut-row.ensures.front c.split_at_mut-row.ensures.back in
+    let set_is = first_set c.args.parts.now c.split_at_mut-part.result.0.now c.set_in.result some c.split_at_mut-part.ensures.front in
+    let new_low : Store = (c.set_in.new.parts, c.set_in.new.kinds) in
+    let new_rest : Store = (c.set_parts.new.trees, c.set_parts.new.kinds) in
+    let join = seam h (length all.0) (length all.1) new_low new_rest (c.set_in.auto.parts ∙ c.split_at_mut-tree.ensures.front_len ∙ places) (omega (arith, c.set_parts.auto.trees, c.split_at_mut-tree.ensures.back_len, places))
+    (c.set_in.auto.kinds ∙ c.split_at_mut-row.ensures.front_len ∙ blocks) (omega (arith, c.set_parts.auto.kinds, c.split_at_mut-row.ensures.back_len, blocks)) in
+    let after : Store = (new_low.0 ++ new_rest.0, new_low.1 ++ new_rest.1) in
+    subst (λ (l : List Part). AreTrees (IsTree h) h (l ++ c.set_parts.new.parts) after) (sym set_is)
+    (parts_trees h c.set_in.result c.set_parts.new.parts new_low new_rest after join c.set_in.ensures.tree c.set_parts.ensures.trees)
