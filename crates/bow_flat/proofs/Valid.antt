@@ -7,7 +7,8 @@ use Rattle.bow_units.specs.declared.requests.Phase.TheVariants.{Trim, Arming, De
 use Rattle.bow_units.specs.declared.sizes.Extent.{Extent}
 use Rattle.bow_flat.specs.Flat.{May, is_any, added, narrowed, put, Flat, Event, discards, trim_written, trim_discarded, count_below, after, Allows, opening}
 use Rattle.bow_flat.specs.Flat.Event.{Writes, Fails, Reads, Discards, Flushes, Arms, Prepares, Decides, Commits, Rests}
-use Rattle.bow_flat.specs.Valid.{HasNoMagic, IsPlainList, IsWithin, HasCheckpoint, IsState, IsOrderly}
+use Rattle.bow_units.specs.Magics.{IsPlain}
+use Rattle.bow_flat.specs.Valid.{IsPlainList, IsWithin, HasCheckpoint, IsState, IsOrderly}
 
 one_of : {A : Type 0} (x y : A) → Contains (x ∷ []) y → y ≡ x
 one_of x y (zero, below, is) = sym is
@@ -65,16 +66,16 @@ some_block zero p h = absurd (omega arith)
 some_block (suc n) p h = omega arith
 
 module _ (n : ℕ) where
-  plain_added : (c : Option (List (List ℕ))) (v : List ℕ) → IsPlainList c → HasNoMagic v → IsPlainList (added c v)
+  plain_added : (c : Option (List (List ℕ))) (v : List ℕ) → IsPlainList c → IsPlain v → IsPlainList (added c v)
   plain_added None v p q = p
-  plain_added (Some cs) v p q = λ x h. elim (Contains-append_cases cs (v ∷ []) x h) [ inl old ↦ p x old | inr new ↦ subst HasNoMagic (sym (one_of v x new)) q ]
+  plain_added (Some cs) v p q = λ x h. elim (Contains-append_cases cs (v ∷ []) x h) [ inl old ↦ p x old | inr new ↦ subst IsPlain (sym (one_of v x new)) q ]
 
   plain_narrowed : (c : Option (List (List ℕ))) (v : List ℕ) → IsPlainList c → May c v → IsPlainList (narrowed c v)
   plain_narrowed None v p a = p
-  plain_narrowed (Some cs) v p a = λ x h. subst HasNoMagic (sym (one_of v x h)) (p v a)
+  plain_narrowed (Some cs) v p a = λ x h. subst IsPlain (sym (one_of v x h)) (p v a)
 
-  plain_one : (v : List ℕ) → HasNoMagic v → IsPlainList (Some (v ∷ []))
-  plain_one v p x h = subst HasNoMagic (sym (one_of v x h)) p
+  plain_one : (v : List ℕ) → IsPlain v → IsPlainList (Some (v ∷ []))
+  plain_one v p x h = subst IsPlain (sym (one_of v x h)) p
 
   plain_flush : (c p : Option (List (List ℕ))) → IsPlainList c → IsPlainList c
   plain_flush c p h = h
@@ -195,7 +196,7 @@ module _ (n : ℕ) where
       listed None h = absurd h
       listed (Some cs) h = refl
 
-      member : (c : Option (List (List ℕ))) (v : List ℕ) → IsPlainList c → May c v → HasNoMagic v
+      member : (c : Option (List (List ℕ))) (v : List ℕ) → IsPlainList c → May c v → IsPlain v
       member None v h a = absurd h
       member (Some cs) v h a = h v a
   stays_valid Prepares f k may o = record {
@@ -234,10 +235,10 @@ module _ (n : ℕ) where
   stays_valid Rests f k may o = k
 
 -- the opening state of an image without a magic in block 0
-pub opening_valid : (image : List (List ℕ)) → HasNoMagic (get_or image 0 []) → IsState (opening image)
+pub opening_valid : (image : List (List ℕ)) → IsPlain (get_or image 0 []) → IsState (opening image)
 opening_valid image plain = record {
-  current_0 = λ v h. subst HasNoMagic (sym (one_of (get_or image 0 []) v h)) plain;
-  pending_0 = λ v h. subst HasNoMagic (sym (one_of (get_or image 0 []) v h)) plain;
+  current_0 = λ v h. subst IsPlain (sym (one_of (get_or image 0 []) v h)) plain;
+  pending_0 = λ v h. subst IsPlain (sym (one_of (get_or image 0 []) v h)) plain;
   within = λ b v h. h;
   discarded = λ is b t. absurd (grind arith);
   arming_used = λ is. absurd (grind arith);

@@ -13,6 +13,7 @@ abbrev pub May : Option (List (List ℕ)) → List ℕ → Type 0
 May None x = Unit {0}
 May (Some xs) x = Contains xs x
 
+-- nothing is known of the block: it may have any content
 abbrev pub is_any : Option (List (List ℕ)) → Bool
 is_any None = true
 is_any (Some xs) = false
@@ -84,12 +85,31 @@ count_below p n = count_from p 0 n
 
 -- the state after an event, of a device of n blocks
 abbrev pub after : ℕ → Event → Flat → Flat
-after n (Writes b v) f = record f { current = put f.current b (Some (v ∷ [])); pending = put f.pending b (added (f.pending b) v); trim = trim_written f.phase f.trim b }
-after n (Fails b v) f = record f { current = put f.current b (added (f.current b) v); pending = put f.pending b (added (f.pending b) v); trim = trim_written f.phase f.trim b }
+after n (Writes b v) f = record f {
+  current = put f.current b (Some (v ∷ []));
+  pending = put f.pending b (added (f.pending b) v);
+  trim = trim_written f.phase f.trim b;
+}
+after n (Fails b v) f = record f {
+  current = put f.current b (added (f.current b) v);
+  pending = put f.pending b (added (f.pending b) v);
+  trim = trim_written f.phase f.trim b;
+}
 after n (Reads b v) f = record f { current = put f.current b (narrowed (f.current b) v) }
-after n (Discards e) f = record f { current = λ b. if discards e b then None else f.current b; pending = λ b. if discards e b then None else f.pending b; trim = trim_discarded f.phase f.trim e }
+after n (Discards e) f = record f {
+  current = λ b. if discards e b then None else f.current b;
+  pending = λ b. if discards e b then None else f.pending b;
+  trim = trim_discarded f.phase f.trim e;
+}
 after n Flushes f = record f { pending = f.current }
-after n (Arms saved) f = record f { phase = Arming; trimmed = count_below f.trim n; used = λ b. not (is_any (f.current b)); saved = saved; current = λ b. narrowed (f.current b) (saved b); pending = λ b. narrowed (f.current b) (saved b) }
+after n (Arms saved) f = record f {
+  phase = Arming;
+  trimmed = count_below f.trim n;
+  used = λ b. not (is_any (f.current b));
+  saved = saved;
+  current = λ b. narrowed (f.current b) (saved b);
+  pending = λ b. narrowed (f.current b) (saved b);
+}
 after n Prepares f = record f { phase = Checkpoint }
 after n Decides f = record f { phase = Deciding; pending = f.current }
 after n Commits f = record f { phase = Committed }
@@ -98,7 +118,8 @@ after n Rests f = f
 -- the event may be, of a device of n blocks
 abbrev pub Allows : ℕ → Event → Flat → Type 0
 Allows n (Reads b v) f = May (f.current b) v
-Allows n (Arms saved) f = (f.phase ≡ Trim) × (2 ≤ count_below f.trim n) × ((b : ℕ) → b < n → May (f.current b) (saved b))
+Allows n (Arms saved) f = (f.phase ≡ Trim) × (2 ≤ count_below f.trim n)
+    × ((b : ℕ) → b < n → May (f.current b) (saved b))
 Allows n Prepares f = f.phase ≡ Arming
 Allows n Decides f = f.phase ≡ Checkpoint
 Allows n Commits f = f.phase ≡ Deciding

@@ -2,18 +2,15 @@
 use Rattle.std.specs.Prelude.{ℕ, ◌≡◌, ◌≢◌, true, not, List, Option, None, Some, ◌∷◌, [], Contains}
 use Rattle.bow_units.specs.declared.requests.Phase.{Phase}
 use Rattle.bow_units.specs.declared.requests.Phase.TheVariants.{Trim, Arming, Checkpoint, Deciding, Committed}
-use Rattle.bow_units.specs.Magics.{HasMagic}
+use Rattle.bow_units.specs.Magics.{IsPlain}
+pub use Rattle.bow_units.specs.Magics.{IsPlain as HasNoMagic}
 use Rattle.bow_flat.specs.Flat.{Flat, Event, is_any}
 use Rattle.bow_flat.specs.Flat.Event.{Writes, Fails, Discards}
-
--- the content begins with neither magic
-abbrev pub HasNoMagic : List ℕ → Type 0
-HasNoMagic content = HasMagic content → ⊥
 
 -- something is known of a block, and none of what it may hold begins with a magic
 abbrev pub IsPlainList : Option (List (List ℕ)) → Type 0
 IsPlainList None = ⊥
-IsPlainList (Some contents) = (v : List ℕ) → Contains contents v → HasNoMagic v
+IsPlainList (Some contents) = (v : List ℕ) → Contains contents v → IsPlain v
 
 -- where what a cut may leave is known, so is what is read, and that is among it
 abbrev pub IsWithin : Option (List (List ℕ)) → Option (List (List ℕ)) → Type 0
@@ -29,8 +26,8 @@ HasCheckpoint Checkpoint = Unit {0}
 HasCheckpoint Deciding = Unit {0}
 HasCheckpoint Committed = ⊥
 
--- Block 0 is known and plain; what is read is among what a cut may leave; what was discarded in Trim may be anything; in
--- Arming each block in use is pending and reads as it was saved; and a checkpoint has a plain block 0.
+-- Block 0 is known and plain; what is read is among what a cut may leave; what was discarded in Trim may be anything;
+-- in Arming each block in use is pending and reads as it was saved; and a checkpoint has a plain block 0.
 pub record IsState (f : Flat) : Type 0 where
   pub current_0 : IsPlainList (f.current 0)
   pub pending_0 : IsPlainList (f.pending 0)
@@ -40,11 +37,11 @@ pub record IsState (f : Flat) : Type 0 where
   pub arming_pending : f.phase ≡ Arming → (b : ℕ) → f.pending b ≡ f.current b
   pub arming_saved : f.phase ≡ Arming → (b : ℕ) → f.used b ≡ true → f.current b ≡ Some (f.saved b ∷ [])
   pub used_0 : HasCheckpoint f.phase → f.used 0 ≡ true
-  pub plain_saved : HasCheckpoint f.phase → HasNoMagic (f.saved 0)
+  pub plain_saved : HasCheckpoint f.phase → IsPlain (f.saved 0)
 
 -- a legal step has such an event in such a state: no data in Arming and Deciding, and no magic in block 0
 abbrev pub IsOrderly : Event → Flat → Type 0
-IsOrderly (Writes b v) f = (f.phase ≢ Arming) × (f.phase ≢ Deciding) × (b ≡ 0 → HasNoMagic v)
-IsOrderly (Fails b v) f = (f.phase ≢ Arming) × (f.phase ≢ Deciding) × (b ≡ 0 → HasNoMagic v)
+IsOrderly (Writes b v) f = (f.phase ≢ Arming) × (f.phase ≢ Deciding) × (b ≡ 0 → IsPlain v)
+IsOrderly (Fails b v) f = (f.phase ≢ Arming) × (f.phase ≢ Deciding) × (b ≡ 0 → IsPlain v)
 IsOrderly (Discards e) f = (f.phase ≢ Arming) × (f.phase ≢ Deciding)
 IsOrderly event f = Unit {0}

@@ -8,7 +8,7 @@ use Rattle.bow_chain.specs.Sound.{log_in, sum_at, SumsHold, IsChain}
 use Rattle.bow_chain.specs.Counting.{AtSums, AtLogs}
 use Rattle.bow_chain.proofs.Hops.{pass-append}
 use Rattle.bow_chain.proofs.Moved.{sums_moved, moved}
-use Rattle.bow_chain.proofs.Counting.{entries_map, places_map, entries_append, places_route, chain_route, sums_append}
+use Rattle.bow_chain.proofs.Counting.{entries_map, places_map, at_places_map, entries_append, places_route, chain_route, sums_append}
 use Rattle.bow_guard.specs.Device.{with_backup}
 use Rattle.bow_guard.specs.Guard.{KeptBehind}
 
@@ -20,13 +20,11 @@ module _ (g : Geometry) (used : ℕ → Bool) (saved : Contents) where
         behind = record {
           valid = (k.behind).valid;
           sequence = (k.behind).sequence;
-          sums = sums_moved image other (λ x. x) (λ x. x) (λ x. x) log.entries (entries_map P _ (λ x. x) (λ x. x) same log.entries k.at_sums) (k.behind).sums;
-          chain = moved g image other (λ x. x) (λ x. x) (pass log.entries) older (places_map P _ (λ x. x) (λ x. x) (pass log.entries) same older k.at_logs) (k.behind).chain;
+          sums = sums_moved image other (λ x. x) (λ x. x) (λ x. x) log.entries (entries_map P _ (λ x. x) (λ x. x) same log.entries (k.places).sums) (k.behind).sums;
+          chain = moved g image other (λ x. x) (λ x. x) (pass log.entries) older (places_map P _ (λ x. x) (λ x. x) (pass log.entries) same older (k.places).logs) (k.behind).chain;
         };
-        at_sums = entries_map P Q (λ x. x) (λ x. x) more log.entries k.at_sums;
-        at_logs = places_map P Q (λ x. x) (λ x. x) (pass log.entries) more older k.at_logs;
-        at_used = λ x on u. more _ (k.at_used x on u);
-        kept = λ x on u. same _ (k.at_used x on u) ∙ k.kept x on u;
+        places = at_places_map g used P Q log older more k.places;
+        kept = λ x on u. same _ ((k.places).bases x on u) ∙ k.kept x on u;
       }
 
   -- Where the current block 0 lies changes nothing.
@@ -42,9 +40,7 @@ module _ (g : Geometry) (used : ℕ → Bool) (saved : Contents) where
           sums = b.sums;
           chain = b.chain;
         };
-        at_sums = k.at_sums;
-        at_logs = k.at_logs;
-        at_used = k.at_used;
+        places = record { sums = (k.places).sums; logs = (k.places).logs; bases = (k.places).bases };
         kept = k.kept;
       }
 
@@ -62,13 +58,15 @@ module _ (g : Geometry) (used : ℕ → Bool) (saved : Contents) where
         behind = record {
           valid = ok;
           sequence = (k.behind).sequence;
-          sums = sums_append other (λ x. x) log.entries (b ∷ []) (sums_moved image other (λ x. x) (hop b) (λ x. x) log.entries (entries_map P _ (λ x. x) (λ x. x) same log.entries k.at_sums) (k.behind).sums) (sum, tt);
-          chain = chain_route g other _ _ older back (moved g image other (λ x. x) (hop b) (pass log.entries) older (places_map P _ (λ x. x) (λ x. x) (pass log.entries) same older k.at_logs) (k.behind).chain);
+          sums = sums_append other (λ x. x) log.entries (b ∷ []) (sums_moved image other (λ x. x) (hop b) (λ x. x) log.entries (entries_map P _ (λ x. x) (λ x. x) same log.entries (k.places).sums) (k.behind).sums) (sum, tt);
+          chain = chain_route g other _ _ older back (moved g image other (λ x. x) (hop b) (pass log.entries) older (places_map P _ (λ x. x) (λ x. x) (pass log.entries) same older (k.places).logs) (k.behind).chain);
         };
-        at_sums = entries_append Q (λ x. x) log.entries (b ∷ []) (entries_map P Q (λ x. x) (hop b) more log.entries k.at_sums) (dests, tt);
-        at_logs = places_route Q _ _ older back (places_map P Q (λ x. x) (hop b) (pass log.entries) more older k.at_logs);
-        at_used = λ x on u. subst Q (back (base older x)) (more _ (k.at_used x on u));
-        kept = λ x on u. ap other (sym (back (base older x))) ∙ same _ (k.at_used x on u) ∙ k.kept x on u;
+        places = record {
+          sums = entries_append Q (λ x. x) log.entries (b ∷ []) (entries_map P Q (λ x. x) (hop b) more log.entries (k.places).sums) (dests, tt);
+          logs = places_route Q _ _ older back (places_map P Q (λ x. x) (hop b) (pass log.entries) more older (k.places).logs);
+          bases = λ x on u. subst Q (back (base older x)) (more _ ((k.places).bases x on u));
+        };
+        kept = λ x on u. ap other (sym (back (base older x))) ∙ same _ ((k.places).bases x on u) ∙ k.kept x on u;
       }
 
   -- The log itself is copied, and a new one begins with that one backup.
@@ -90,14 +88,16 @@ module _ (g : Geometry) (used : ℕ → Bool) (saved : Contents) where
             spelled,
             whole,
             (k.behind).sequence,
-            sums_moved image other (λ x. x) (hop b) (λ x. x) log.entries (entries_map P _ (λ x. x) (λ x. x) same log.entries k.at_sums) (k.behind).sums,
-            moved g image other (λ x. x) (hop b) (pass log.entries) older (places_map P _ (λ x. x) (λ x. x) (pass log.entries) same older k.at_logs) (k.behind).chain,
+            sums_moved image other (λ x. x) (hop b) (λ x. x) log.entries (entries_map P _ (λ x. x) (λ x. x) same log.entries (k.places).sums) (k.behind).sums,
+            moved g image other (λ x. x) (hop b) (pass log.entries) older (places_map P _ (λ x. x) (λ x. x) (pass log.entries) same older (k.places).logs) (k.behind).chain,
           );
         };
-        at_sums = subst (AtSums Q (λ x. x)) es (dests, tt);
-        at_logs = subst (λ es. AtLogs Q (pass es) (log ∷ older)) es (more0, entries_map P Q (λ x. x) (hop b) more log.entries k.at_sums, places_map P Q (λ x. x) (hop b) (pass log.entries) more older k.at_logs);
-        at_used = λ x on u. subst (λ es. Q (pass es (base (log ∷ older) x))) es (more _ (k.at_used x on u));
-        kept = λ x on u. subst (λ es. other (pass es (base (log ∷ older) x)) ≡ saved x) es (same _ (k.at_used x on u) ∙ k.kept x on u);
+        places = record {
+          sums = subst (AtSums Q (λ x. x)) es (dests, tt);
+          logs = subst (λ es. AtLogs Q (pass es) (log ∷ older)) es (more0, entries_map P Q (λ x. x) (hop b) more log.entries (k.places).sums, places_map P Q (λ x. x) (hop b) (pass log.entries) more older (k.places).logs);
+          bases = λ x on u. subst (λ es. Q (pass es (base (log ∷ older) x))) es (more _ ((k.places).bases x on u));
+        };
+        kept = λ x on u. subst (λ es. other (pass es (base (log ∷ older) x)) ≡ saved x) es (same _ ((k.places).bases x on u) ∙ k.kept x on u);
       }
 
   -- The first log: each used block is kept where the one backup puts it.
@@ -111,8 +111,10 @@ module _ (g : Geometry) (used : ℕ → Bool) (saved : Contents) where
       let es = sym entries in
       record {
         behind = record { valid = ok; sequence = sequence; sums = subst (SumsHold image (λ x. x)) es (sum, tt); chain = tt };
-        at_sums = subst (AtSums P (λ x. x)) es (dests, tt);
-        at_logs = tt;
-        at_used = λ x on u. subst (λ es. P (pass es x)) es (firm x on u);
+        places = record {
+          sums = subst (AtSums P (λ x. x)) es (dests, tt);
+          logs = tt;
+          bases = λ x on u. subst (λ es. P (pass es x)) es (firm x on u);
+        };
         kept = λ x on u. subst (λ es. image (pass es x) ≡ saved x) es (kept x on u);
       }

@@ -1,49 +1,37 @@
 -- The laws.
-use Rattle.std.proofs.Common.{ℕ, ◌<◌, Bool, true, List, [], ◌∷◌, ◌++◌, ◌≡◌, arith, refl, sym, ap, ◌∙◌, subst, inl, inr}
+use Rattle.std.proofs.Common.{ℕ, ◌<◌, Bool, true, List, [], ◌∷◌, ◌++◌, ◌≡◌, ◌≢◌, arith, refl, sym, ap, ◌∙◌, subst, inl, inr}
 use Rattle.std.specs.List.{AllByRecursion as Each}
 use Rattle.bow_units.specs.declared.sizes.Geometry.{Geometry}
 use Rattle.bow_log.specs.Generations.{Backup, Generation, IsBackup, StartsWith0, IsGeneration}
 use Rattle.bow_chain.specs.Contents.{Contents, run_of}
-use Rattle.bow_chain.specs.Places.{pass, base}
-use Rattle.bow_chain.specs.Sound.{log_in, sum_at, StandsBehind, IsSound}
-use Rattle.bow_chain.specs.Counting.{AtSums, AtLogs}
+use Rattle.bow_chain.specs.Sound.{log_in, sum_at}
 use Rattle.bow_chain.proofs.Moved.{run_same}
-use Rattle.bow_chain.proofs.Counting.{entries_map, places_map, some_inj}
+use Rattle.bow_chain.proofs.Counting.{some_inj}
 use Rattle.bow_guard.specs.Device.{IsLoose, Steady, Safe, Device, LogGiven, with_backup}
 use Rattle.bow_guard.specs.Guard.{KeptBehind}
-use Rattle.bow_guard.specs.Laws.{SameWhereCounted, CutsKeep, NeededIsNotLoose, LooseWrites, LooseKinds, FlushKeeps, LastFlush, CopiesLogged, LinkLogged, MoveLogged, LogRewritten, CutsStand, WritesInPlace, WritesToFree, ReadsInPlace, FlushesInPlace, DiscardsInPlace, PrepareArms, FirstLogGiven, ReadsArming, PrepareEnds, CommitDecides, DecidesAgain, FlushesDeciding, ReadsDeciding, CommitEnds, Together, CutsAreAhead}
+use Rattle.bow_guard.specs.Laws.{CutsKeep, KeptAtSafePlaces, SafeIsNotLoose, LooseWrites, LooseKinds, FlushKeeps, LastFlush, CopiesLogged, LinkLogged, MoveLogged, LogRewritten, CutsStand, WritesInPlace, WritesToFree, ReadsInPlace, FlushesInPlace, DiscardsInPlace, PrepareArms, FirstLogGiven, ReadsArming, PrepareEnds, CommitDecides, DecidesAgain, FlushesDeciding, ReadsDeciding, CommitEnds, Together, CutsAreAhead}
 use Rattle.bow_guard.proofs.Kept.{same_keeps}
-use Rattle.bow_guard.proofs.Device.{guarded_cut, steady_safe, safe_tight, loose_write, kinds_changed, flushed, cleaned, copy_logged, link_logged, move_logged, rewritten}
+use Rattle.bow_guard.proofs.Device.{guarded_cut, steady_safe, safe_tight, not_0, loose_write, kinds_changed, flushed, cleaned, copy_logged, link_logged, move_logged, rewritten}
 use Rattle.bow_guard.proofs.Phases.{cut_stands, together}
 use Rattle.bow_guard.proofs.PhaseActs.{pending_written, pending_kept, pending_flushed, pending_discarded, arms, arms_written, arms_flushed, arming_read, deciding_written, deciding_again, deciding_flushed, deciding_read, committed_flushed, committed_again, ahead_cut}
-
-pub same_where_counted : SameWhereCounted
-same_where_counted g used image other log older sound zeroth sums logs bases =
-    let after = same_keeps g used (λ x. image (base (log ∷ older) x)) (λ x. other x ≡ image x) (λ x. other x ≡ image x) image other log older (λ x h. h) (λ x h. h)
-    (record { behind = sound.behind; at_sums = sums; at_logs = logs; at_used = bases; kept = λ x on u. refl }) in
-    let is : IsSound g other log older = record { spelled = ap (log_in g) zeroth ∙ sound.spelled; behind = after.behind } in
-    (is, record { log = log; older = older; sound = is; kept = after.kept })
 
 pub cuts_keep : CutsKeep
 cuts_keep g used saved d image k cut = guarded_cut g used saved d image k cut
 
--- what is kept at places that may not be written in place
-needed_of : (g : Geometry) (used : ℕ → Bool) (saved : Contents) (d : Device) (P : ℕ → Type 0) (l log : Generation) (older : List Generation) → ((x : ℕ) → P x → IsLoose d x → ⊥) → l ≡ log → KeptBehind g P used saved d.now l older
-    → (ls : List Generation) × StandsBehind g d.now log ls × AtSums (λ x. IsLoose d x → ⊥) (λ x. x) log.entries × AtLogs (λ x. IsLoose d x → ⊥) (pass log.entries) ls × ((x : ℕ) → x < g.blocks → used x ≡ true → IsLoose d (base (log ∷ ls) x) → ⊥)
-needed_of g used saved d P l log older tight is k =
-    let h = subst (λ m. KeptBehind g P used saved d.now m older) is k in (
-      older,
-      h.behind,
-      entries_map P (λ x. IsLoose d x → ⊥) (λ x. x) (λ x. x) tight log.entries h.at_sums,
-      places_map P (λ x. IsLoose d x → ⊥) (λ x. x) (λ x. x) (pass log.entries) tight older h.at_logs,
-      λ x on u. tight _ (h.at_used x on u),
-    )
-
-pub needed_is_not_loose : NeededIsNotLoose
-needed_is_not_loose g used saved d v log k has spelled = elim (k.heads v has) [
-  | inl is ↦ needed_of g used saved d (Steady g d) d.log log d.older (λ x s. safe_tight g d x (steady_safe g d x s)) (some_inj (sym is ∙ spelled)) k.log
-  | inr is ↦ needed_of g used saved d (Safe g d) d.clean_log log d.clean_older (λ x s. safe_tight g d x s) (some_inj (sym is ∙ spelled)) k.clean
+pub kept_at_safe_places : KeptAtSafePlaces
+kept_at_safe_places g used saved d v log k has spelled = elim (k.heads v has) [
+  | inl is ↦ (d.older, subst (λ m. KeptBehind g Q used saved d.now m d.older) (some_inj (sym is ∙ spelled)) (same_keeps g used saved (Steady g d) Q d.now d.now d.log d.older (λ x s. safe x (steady_safe g d x s)) (λ x s. refl) k.log))
+  | inr is ↦ (d.clean_older, subst (λ m. KeptBehind g Q used saved d.now m d.clean_older) (some_inj (sym is ∙ spelled)) (same_keeps g used saved (Safe g d) Q d.now d.now d.clean_log d.clean_older safe (λ x s. refl) k.clean))
 ]
+  where
+    Q : ℕ → Type 0
+    Q x = (x ≢ 0) × Safe g d x
+
+    safe : (x : ℕ) → Safe g d x → (x ≢ 0) × Safe g d x
+    safe x s = (not_0 g d x k.zeroth s, s)
+
+pub safe_is_not_loose : SafeIsNotLoose
+safe_is_not_loose g d x s l = safe_tight g d x s l
 
 pub loose_writes : LooseWrites
 loose_writes g used saved d e b above loose touches logs others k = loose_write g used saved d e b above (λ s. safe_tight g d b s loose) touches logs others k

@@ -19,7 +19,8 @@ IsCut g may image = (b : ℕ) → b < g.blocks → Contains (may b) (image b)
 abbrev pub IsFlushed : Geometry → Contents → Candidates → Type 0
 IsFlushed g now may = (b : ℕ) → b < g.blocks → may b ≡ now b ∷ []
 
--- a write of this content to this block was given to the disk: it was done, or it failed and may have been done all the same
+-- a write of this content to this block was given to the disk: it was done, or it failed and may have been done all the
+-- same
 pub record WriteGiven (block : ℕ) (content : List ℕ) (now new_now : Contents) (may new_may : Candidates) : Type 0 where
   pub others_now : (x : ℕ) → x ≢ block → new_now x ≡ now x
   pub others_may : (x : ℕ) → x ≢ block → new_may x ≡ may x

@@ -4,6 +4,7 @@ use Rattle.bow_units.specs.declared.sizes.Geometry.{Geometry}
 use Rattle.bow_units.specs.declared.statuses.Kind.{Kind}
 use Rattle.bow_units.specs.declared.statuses.Kind.TheVariants.{Current, Unchanged, Free, Changed, Backup as BackupKind, Saved}
 use Rattle.bow_log.specs.Generations.{Backup, Generation}
+pub use Rattle.bow_log.specs.Generations.{with_backup}
 use Rattle.bow_chain.specs.Contents.{Contents}
 use Rattle.bow_chain.specs.Places.{InSource, InDest}
 use Rattle.bow_chain.specs.Sound.{log_in}
@@ -69,10 +70,6 @@ over d now may = record d { now = now; may = may }
 abbrev pub unsaved : Kind → Kind
 unsaved Saved = Changed
 unsaved kind = kind
-
--- a log with one more backup, the last
-abbrev pub with_backup : Generation → Backup → Generation
-with_backup log b = record log { entries = log.entries ++ b ∷ [] }
 
 -- The log in memory has changed and was given to block 0, whether that write was done or failed. It has a backup more,
 -- whose dest had been picked, was flushed, and is Backup; its sources are Saved, until the log is durable.

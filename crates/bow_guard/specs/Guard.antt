@@ -4,18 +4,17 @@ use Rattle.bow_units.specs.declared.sizes.Geometry.{Geometry}
 use Rattle.bow_units.specs.declared.statuses.Kind.TheVariants.{Sector0}
 use Rattle.bow_log.specs.Generations.{Generation}
 use Rattle.bow_chain.specs.Contents.{Contents}
-use Rattle.bow_chain.specs.Places.{pass, base}
+use Rattle.bow_chain.specs.Places.{base}
 use Rattle.bow_chain.specs.Sound.{log_in, StandsBehind}
-use Rattle.bow_chain.specs.Counting.{AtSums, AtLogs}
+use Rattle.bow_chain.specs.Counting.{AtPlaces}
 use Rattle.bow_guard.specs.Device.{Device, Steady, Safe}
 
--- Behind this log, wherever it lies itself, each used block is kept as it was saved; and each place that counts for
--- that has P: those of the sums, those of the older logs, and those where the used blocks are kept.
-pub record KeptBehind (g : Geometry) (P : ℕ → Type 0) (used : ℕ → Bool) (saved image : Contents) (log : Generation) (older : List Generation) : Type 0 where
+-- Behind this log, wherever it lies itself, each used block is kept as it was saved, and P holds of each place that
+-- counts for that.
+pub record KeptBehind (g : Geometry) (P : ℕ → Type 0) (used : ℕ → Bool) (saved image : Contents)
+    (log : Generation) (older : List Generation) : Type 0 where
   pub behind : StandsBehind g image log older
-  pub at_sums : AtSums P (λ x. x) log.entries
-  pub at_logs : AtLogs P (pass log.entries) older
-  pub at_used : (x : ℕ) → x < g.blocks → used x ≡ true → P (base (log ∷ older) x)
+  pub places : AtPlaces g used P log older
   pub kept : (x : ℕ) → x < g.blocks → used x ≡ true → image (base (log ∷ older) x) ≡ saved x
 
 -- Block 0 may hold the log in memory or the last durable one, and nothing else. All is kept behind either: behind the

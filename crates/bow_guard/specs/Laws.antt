@@ -12,39 +12,32 @@ use Rattle.bow_log.specs.Generations.{Backup, Generation, IsGeneration}
 use Rattle.bow_chain.specs.Contents.{Contents, contents_of, with_block, run_of}
 use Rattle.bow_chain.specs.Places.{hop, pass, base, InSource}
 use Rattle.bow_chain.specs.Sound.{log_in, sum_at, StandsBehind, IsSound}
-use Rattle.bow_chain.specs.Counting.{AtSums, AtLogs}
 use Rattle.bow_chain.specs.Kept.{IsPlain, Keeps, Holds}
 use Rattle.bow_guard.specs.Cuts.{Candidates, candidates_of, IsCut, IsFlushed, WriteGiven}
-use Rattle.bow_guard.specs.Device.{Device, IsLoose, Touches, SameLogs, IsClean, LogGiven, over, with_backup}
-use Rattle.bow_guard.specs.Guard.{Guarded}
+use Rattle.bow_guard.specs.Device.{Device, Safe, IsLoose, Touches, SameLogs, IsClean, LogGiven, over, with_backup}
+use Rattle.bow_guard.specs.Guard.{KeptBehind, Guarded}
 use Rattle.bow_guard.specs.Standing.{StandsFor, HasCheckpointIn, Ahead}
 use Rattle.bow_guard.specs.Phases.{IsPending, IsArming, IsDeciding, Leaves}
-
--- An image that is the same as a sound one in block 0 and at each place that counts is sound, with the same logs, and
--- keeps the same of the used blocks.
-abbrev pub SameWhereCounted : Type 0
-SameWhereCounted = (g : Geometry) (used : ℕ → Bool) (image other : Contents) (log : Generation) (older : List Generation)
-    → IsSound g image log older → other 0 ≡ image 0
-    → AtSums (λ x. other x ≡ image x) (λ x. x) log.entries → AtLogs (λ x. other x ≡ image x) (pass log.entries) older
-    → ((x : ℕ) → x < g.blocks → used x ≡ true → other (base (log ∷ older) x) ≡ image (base (log ∷ older) x))
-    → IsSound g other log older × Keeps g used (λ x. image (base (log ∷ older) x)) other
 
 -- Whatever a cut leaves of a guarded device is sound and keeps what was saved.
 abbrev pub CutsKeep : Type 0
 CutsKeep = (g : Geometry) (used : ℕ → Bool) (saved : Contents) (d : Device) (image : Contents)
     → Guarded g used saved d → IsCut g d.may image → Keeps g used saved image
 
--- Whichever log a cut leaves in block 0, no place that counts for it, or where it keeps a used block, may be written in
--- place.
-abbrev pub NeededIsNotLoose : Type 0
-NeededIsNotLoose = (g : Geometry) (used : ℕ → Bool) (saved : Contents) (d : Device) (v : List ℕ) (log : Generation)
+-- Behind whichever log a cut leaves in block 0 all is kept at safe places, none of which is block 0: each has one
+-- candidate, is Unchanged, Backup or Saved, and was picked by no batch.
+abbrev pub KeptAtSafePlaces : Type 0
+KeptAtSafePlaces =
+    (g : Geometry) (used : ℕ → Bool) (saved : Contents) (d : Device) (v : List ℕ) (log : Generation)
     → Guarded g used saved d → Contains (d.may 0) v → log_in g v ≡ Some log
-    → (older : List Generation) × StandsBehind g d.now log older
-    × AtSums (λ x. IsLoose d x → ⊥) (λ x. x) log.entries × AtLogs (λ x. IsLoose d x → ⊥) (pass log.entries) older
-    × ((x : ℕ) → x < g.blocks → used x ≡ true → IsLoose d (base (log ∷ older) x) → ⊥)
+    → (older : List Generation) × KeptBehind g (λ x. (x ≢ 0) × Safe g d x) used saved d.now log older
 
--- A write, done or failed, of a block that may be written in place keeps the guard; so the direct writes of requests and
--- the copies of a batch do.
+-- No safe place may be written in place.
+abbrev pub SafeIsNotLoose : Type 0
+SafeIsNotLoose = (g : Geometry) (d : Device) (x : ℕ) → Safe g d x → IsLoose d x → ⊥
+
+-- A write, done or failed, of a block that may be written in place keeps the guard; so the direct writes of requests
+-- and the copies of a batch do.
 abbrev pub LooseWrites : Type 0
 LooseWrites = (g : Geometry) (used : ℕ → Bool) (saved : Contents) (d e : Device) (b : ℕ)
     → b ≢ 0 → IsLoose d b → Touches b d e → SameLogs d e
@@ -87,7 +80,8 @@ abbrev pub LinkLogged : Type 0
 LinkLogged = (g : Geometry) (used : ℕ → Bool) (saved : Contents) (d e : Device) (b : Backup)
     → LogGiven g b d e → IsClean d
     → e.log.entries ≡ b ∷ [] → e.log.sequence ≡ suc d.log.sequence → e.older ≡ d.log ∷ d.older → IsGeneration g e.log
-    → d.log.restoring ≡ false → log_in g (d.now b.dest) ≡ Some d.log → sum_at b.source (run_of d.now b.dest b.count) ≡ b.sum
+    → d.log.restoring ≡ false → log_in g (d.now b.dest) ≡ Some d.log
+    → sum_at b.source (run_of d.now b.dest b.count) ≡ b.sum
     → Guarded g used saved d → Guarded g used saved e
 
 -- The current block 0 moves to a picked block, and the log that names it is given, the write done or failed.
@@ -102,7 +96,9 @@ MoveLogged = (g : Geometry) (used : ℕ → Bool) (saved : Contents) (d e : Devi
 
 -- The log in memory is written once more, or that write fails.
 abbrev pub LogRewritten : Type 0
-LogRewritten = (g : Geometry) (used : ℕ → Bool) (saved : Contents) (d : Device) (now : Contents) (may : Candidates) (block : List ℕ)
+LogRewritten =
+    (g : Geometry) (used : ℕ → Bool) (saved : Contents) (d : Device) (now : Contents) (may : Candidates)
+    (block : List ℕ)
     → log_in g block ≡ Some d.log → WriteGiven 0 block d.now now d.may may
     → Guarded g used saved d → Guarded g used saved (over d now may)
 
@@ -145,17 +141,20 @@ PrepareArms = (g : Geometry) (f : Flat) (n : ℕ) (d : Device) (b : Backup)
     → IsGeneration g d.log → d.log.entries ≡ b ∷ [] → d.log.sequence ≡ 0
     → b.source ≡ 0 → b.count ≡ 1 → sum_at b.source (run_of d.now b.dest b.count) ≡ b.sum
     → d.kind b.dest ≡ BackupKind → d.picked b.dest ≡ false → d.now b.dest ≡ d.now 0
-    → ((x : ℕ) → 0 < x → x < g.blocks → not (is_any (f.current x)) ≡ true → (d.kind x ≡ Unchanged) × (d.picked x ≡ false))
+    → ((x : ℕ) → 0 < x → x < g.blocks → not (is_any (f.current x)) ≡ true
+    → (d.kind x ≡ Unchanged) × (d.picked x ≡ false))
     → IsArming g (after n (Arms d.now) f) d
 
 -- Its log write, done or failed, keeps the device armed.
 abbrev pub FirstLogGiven : Type 0
 FirstLogGiven = (g : Geometry) (f : Flat) (d : Device) (now : Contents) (may : Candidates) (block : List ℕ)
-    → log_in g block ≡ Some d.log → WriteGiven 0 block d.now now d.may may → IsArming g f d → IsArming g f (over d now may)
+    → log_in g block ≡ Some d.log → WriteGiven 0 block d.now now d.may may → IsArming g f d
+    → IsArming g f (over d now may)
 
 -- And so does a read.
 abbrev pub ReadsArming : Type 0
-ReadsArming = (g : Geometry) (f : Flat) (n b : ℕ) (v : List ℕ) (d : Device) → IsArming g f d → IsArming g (after n (Reads b v) f) d
+ReadsArming = (g : Geometry) (f : Flat) (n b : ℕ) (v : List ℕ) (d : Device) → IsArming g f d
+    → IsArming g (after n (Reads b v) f) d
 
 -- Its last flush makes the first log durable, and the device guarded.
 abbrev pub PrepareEnds : Type 0
@@ -180,21 +179,24 @@ DecidesAgain = (g : Geometry) (f : Flat) (d : Device) (now : Contents) (may : Ca
 -- So may a flush that is done.
 abbrev pub FlushesDeciding : Type 0
 FlushesDeciding = (g : Geometry) (f : Flat) (d : Device) (may : Candidates) (content : List ℕ)
-    → IsFlushed g d.now may → Contains (d.may 0) (d.now 0) → IsDeciding g f content d → IsDeciding g f content (over d d.now may)
+    → IsFlushed g d.now may → Contains (d.may 0) (d.now 0) → IsDeciding g f content d
+    → IsDeciding g f content (over d d.now may)
 
 -- And so may a read, of block 0 where its current content lies.
 abbrev pub ReadsDeciding : Type 0
 ReadsDeciding = (g : Geometry) (f : Flat) (n b : ℕ) (v content : List ℕ) (d : Device)
-    → (b ≡ 0 → v ≡ content) → (0 < b → v ≡ d.now b) → IsDeciding g f content d → IsDeciding g (after n (Reads b v) f) content d
+    → (b ≡ 0 → v ≡ content) → (0 < b → v ≡ d.now b) → IsDeciding g f content d
+    → IsDeciding g (after n (Reads b v) f) content d
 
--- The last flush of a commit, with the deciding write done, leaves nothing but what is pending; and where the device was
--- deciding before the commit began, nothing but what each block reads as.
+-- The last flush of a commit, with the deciding write done, leaves nothing but what is pending; and where the device
+-- was deciding before the commit began, nothing but what each block reads as.
 abbrev pub CommitEnds : Type 0
 CommitEnds = (g : Geometry) (f : Flat) (n : ℕ) (d : Device) (may : Candidates) (content : List ℕ)
     → IsState f → d.now 0 ≡ content → IsFlushed g d.now may → IsDeciding g f content d
     → IsPending g (after n Commits f) may × IsPending g (after n Commits (after n Flushes f)) may
 
--- An image that holds the checkpoint of its flat state keeps it or has it in place, and block 0 was saved without a magic.
+-- An image that holds the checkpoint of its flat state keeps it or has it in place, and block 0 was saved without a
+-- magic.
 abbrev pub Together : Type 0
 Together = (g : Geometry) (f : Flat) (image : Contents)
     → IsState f → HasCheckpointIn g f.phase f image → Holds g f.used f.saved image × IsPlain (f.saved 0)
@@ -205,19 +207,23 @@ abbrev pub CutsAreAhead : Type 0
 CutsAreAhead = (g : Geometry) (f : Flat) (may : Candidates) (image : Contents)
     → IsValid g → IsState f
     → ((b : ℕ) → 0 < b → b < g.blocks → (v : List ℕ) → Contains (may b) v → May (f.pending b) v)
-    → ((v : List ℕ) (log : Generation) → Contains (may 0) v → log_in g v ≡ Some log → (w : List ℕ) → Contains (may log.current) w → May (f.pending 0) w)
+    → ((v : List ℕ) (log : Generation) → Contains (may 0) v → log_in g v ≡ Some log → (w : List ℕ)
+    → Contains (may log.current) w → May (f.pending 0) w)
     → IsCut g may image → Ahead g f image
 
 -- Of a disk that tells its content: the crash images are the images of as many blocks that a cut may leave.
 abbrev pub CrashesAreCuts : Type 0
 CrashesAreCuts = (g : Geometry) (size : ℕ) (c : Content) (image : List (List ℕ))
-    → IsShaped size g.blocks c → IsCrash c.candidates image ↔ ((length image ≡ g.blocks) × IsCut g (candidates_of c.candidates) (contents_of image))
+    → IsShaped size g.blocks c
+    → IsCrash c.candidates image
+    ↔ ((length image ≡ g.blocks) × IsCut g (candidates_of c.candidates) (contents_of image))
 
 -- Of such a disk, a write that was done or failed was given.
 abbrev pub WritesAreGiven : Type 0
 WritesAreGiven = (size n b : ℕ) (v : List ℕ) (old new : Content)
     → IsShaped size n old → b < n → Same old new ⊎ (Offered b v old new ⊎ Written b v old new)
-    → WriteGiven b v (contents_of old.now) (contents_of new.now) (candidates_of old.candidates) (candidates_of new.candidates)
+    → WriteGiven b v (contents_of old.now) (contents_of new.now)
+    (candidates_of old.candidates) (candidates_of new.candidates)
 
 -- A write that was done put its content into the block.
 abbrev pub WritesArePut : Type 0

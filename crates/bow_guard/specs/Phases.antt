@@ -28,7 +28,8 @@ pub record IsArming (g : Geometry) (f : Flat) (d : Device) : Type 0 where
 pub record IsDeciding (g : Geometry) (f : Flat) (content : List ℕ) (d : Device) : Type 0 where
   pub log : KeptBehind g (Steady g d) f.used f.saved d.now d.log d.older
   pub clean : KeptBehind g (Safe g d) f.used f.saved d.now d.clean_log d.clean_older
-  pub heads : (v : List ℕ) → Contains (d.may 0) v → (v ≡ content) ⊎ ((log_in g v ≡ Some d.log) ⊎ (log_in g v ≡ Some d.clean_log))
+  pub heads : (v : List ℕ) → Contains (d.may 0) v
+      → (v ≡ content) ⊎ ((log_in g v ≡ Some d.log) ⊎ (log_in g v ≡ Some d.clean_log))
   pub zeroth : d.kind 0 ≡ Sector0
   pub one : (x : ℕ) → 0 < x → x < g.blocks → d.may x ≡ d.now x ∷ []
   pub plain : IsPlain content

@@ -38,6 +38,6 @@ HasCheckpointIn g phase f image = ⊥
 abbrev pub forwarded : Contents → Generation → Contents
 forwarded image log = with_block image 0 (image log.current)
 
--- where block 0 spells a log, the image stands as after a commit once what its current block 0 holds is put into block 0
+-- where block 0 spells a log, the image stands as after a commit once what its current block 0 holds is put there
 abbrev pub Ahead : Geometry → Flat → Contents → Type 0
 Ahead g f image = (log : Generation) → log_in g (image 0) ≡ Some log → StandsIn g Committed f (forwarded image log)

@@ -1,12 +1,12 @@
 // What holds of the device from the checkpoint on, whatever code drives it.
-ghost use Rattle.bow_guard.specs.Laws.{SameWhereCounted, CutsKeep, NeededIsNotLoose, LooseWrites, LooseKinds, FlushKeeps, LastFlush, CopiesLogged, LinkLogged, MoveLogged, LogRewritten, CutsStand, WritesInPlace, WritesToFree, ReadsInPlace, FlushesInPlace, DiscardsInPlace, PrepareArms, FirstLogGiven, ReadsArming, PrepareEnds, CommitDecides, DecidesAgain, FlushesDeciding, ReadsDeciding, CommitEnds, Together, CutsAreAhead, CrashesAreCuts, WritesAreGiven, WritesArePut, FlushesAreDone};
+ghost use Rattle.bow_guard.specs.Laws.{CutsKeep, KeptAtSafePlaces, SafeIsNotLoose, LooseWrites, LooseKinds, FlushKeeps, LastFlush, CopiesLogged, LinkLogged, MoveLogged, LogRewritten, CutsStand, WritesInPlace, WritesToFree, ReadsInPlace, FlushesInPlace, DiscardsInPlace, PrepareArms, FirstLogGiven, ReadsArming, PrepareEnds, CommitDecides, DecidesAgain, FlushesDeciding, ReadsDeciding, CommitEnds, Together, CutsAreAhead, CrashesAreCuts, WritesAreGiven, WritesArePut, FlushesAreDone};
 
-/// A cut of a guarded device leaves an image that is sound and keeps the checkpoint. Two images that are the same where
-/// it counts keep the same, so it is enough to guard those places; and none of them may be written in place.
+/// A cut of a guarded device leaves an image that is sound and keeps the checkpoint. Behind whichever log it leaves all
+/// is kept at safe places, and none of these may be written in place.
 pub fn guard_law()
-    ensures same { SameWhereCounted }
     ensures cuts { CutsKeep }
-    ensures needed { NeededIsNotLoose }
+    ensures safe { KeptAtSafePlaces }
+    ensures not_loose { SafeIsNotLoose }
 {}
 
 /// What requests do while the device is guarded: writes in place, reads, flushes and discards keep the guard, done or

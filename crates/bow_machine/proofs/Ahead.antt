@@ -23,11 +23,15 @@ use Rattle.bow_guard.proofs.Phases.{may_within}
 use Rattle.bow_guard.proofs.PhaseActs.{ahead_cut}
 use Rattle.bow_ranges.specs.Kinds.{kind_at}
 use Rattle.bow_machine.specs.Memory.{Memory, place_with}
-use Rattle.bow_machine.specs.Tasks.{Map, Worker, Command}
-use Rattle.bow_machine.specs.Standing.{device_of, IsStanding}
+use Rattle.bow_machine.specs.Calls.{Failed, DoesIt}
+use Rattle.bow_machine.specs.Tasks.{Turn, Map, Worker, Command, task_of}
+use Rattle.bow_machine.specs.Steps.{call_of, step_of}
+use Rattle.bow_machine.specs.Laws.{after_all}
+use Rattle.bow_machine.proofs.Held.{device_of, IsHeld}
 use Rattle.bow_machine.specs.Ahead.{Shows0, IsPlace0, IsLed, IsBytes, AllAhead, OpeningIsLed, AdmitIsLed, LedKeeps, LedIsAhead, BytesAreAhead, AheadIsLed, AheadKeeps}
-use Rattle.bow_machine.proofs.Openings.{opening_stands}
-use Rattle.bow_machine.proofs.Whole.{step_keeps}
+use Rattle.bow_machine.proofs.Openings.{opening_held}
+use Rattle.bow_machine.proofs.Joined.{held}
+use Rattle.bow_machine.proofs.Whole.{step_holds, step_keeps}
 use Rattle.bow_machine.proofs.Consequences.{block_there, block_other}
 use Rattle.bow_machine.proofs.AheadLeads.{head_not_0, plain_led}
 use Rattle.bow_machine.proofs.AheadSteps.{LogKept, log_in_checkpoint, log_in_arming, log_in_deciding}
@@ -36,15 +40,24 @@ use Rattle.bow_machine.proofs.AheadWorkers.{worker_leads}
 use Rattle.bow_machine.proofs.AheadCommands.{command_leads}
 
 pub opening_is_led : OpeningIsLed
-opening_is_led g image sizes plain = plain_led g _ _ _ _ (opening_stands g image sizes plain) (inl refl)
+opening_is_led g image sizes plain = plain_led g _ _ _ _ (opening_held g image sizes plain) (inl refl)
 
 pub admit_is_led : AdmitIsLed
 admit_is_led g m now may f r l = l
 
 pub led_keeps : LedKeeps
-led_keeps g m (Map ticket) reply now new_now may new_may f s l ok does = map_leads g m now new_now may new_may f s l reply ticket does ok (step_keeps g m (Map ticket) reply now new_now may new_may f s does).1
-led_keeps g m Worker reply now new_now may new_may f s l ok does = worker_leads g f now new_now may new_may reply m s l does ok (step_keeps g m Worker reply now new_now may new_may f s does).1
-led_keeps g m Command reply now new_now may new_may f s l ok does = command_leads g m now new_now may new_may f reply s l does ok (step_keeps g m Command reply now new_now may new_may f s does).1
+led_keeps g m turn reply now new_now may new_may f standing l ok does = led turn does ok
+  where
+    s : IsHeld g m now may f
+    s = held g m now may f standing
+
+    led : (turn : Turn) → DoesIt g (call_of g m (task_of g m turn)) reply now may new_now new_may
+        → (reply ≡ Failed → call_of g m (task_of g m turn) ≡ None)
+        → let step = step_of g now m (task_of g m turn) reply in
+        IsLed g step.memory new_now new_may (after_all g.blocks step.events f)
+    led (Map ticket) does ok = map_leads g m now new_now may new_may f s l reply ticket does ok (step_holds g m (Map ticket) reply now new_now may new_may f s does).1
+    led Worker does ok = worker_leads g f now new_now may new_may reply m s l does ok (step_holds g m Worker reply now new_now may new_may f s does).1
+    led Command does ok = command_leads g m now new_now may new_may f reply s l does ok (step_holds g m Command reply now new_now may new_may f s does).1
 
 -- ----------------------------------------------------------------------------------------------------------------
 
@@ -68,13 +81,13 @@ log_has_magic g block log bytes spells =
     long c = elim (cases_lt (length block) 4) [ inl few ↦ absurd (short block few c.version) | inr enough ↦ enough ]
 
 pub led_is_ahead : LedIsAhead
-led_is_ahead g m now may f s l image cut begins log spells = ahead_cut g f (λ b. image b ∷ []) image s.sizes s.state
+led_is_ahead g m now may f s l image cut begins log spells = ahead_cut g f (λ b. image b ∷ []) image s.sound.sizes s.state
     (λ b up on v h. l.others b up on v (was b on v h))
-    (λ v head h is w c. (l.heads (image 0) head (cut 0 some) begins (at v h head is)).1 w (was head.current (spelled_ok g s.sizes v head is).current_inside w c))
+    (λ v head h is w c. (l.heads (image 0) head (cut 0 some) begins (at v h head is)).1 w (was head.current (spelled_ok g s.sound.sizes v head is).current_inside w c))
     (λ b on. (0, omega arith, refl)) log spells
   where
     some : 0 < g.blocks
-    some = omega (arith, s.sizes.enough)
+    some = omega (arith, s.sound.sizes.enough)
 
     was : (b : ℕ) → b < g.blocks → (v : List ℕ) → Contains (image b ∷ []) v → Contains (may b) v
     was b on v h = subst (Contains (may b)) (sym (one_of (image b) v h)) (cut b on)
@@ -93,7 +106,7 @@ may_saved : (c : Option (List (List ℕ))) (v w : List ℕ) → (not (is_any c) 
 may_saved None v w h = tt
 may_saved (Some cs) v w h = subst (λ c. May c v) (sym (h refl).1) (subst (Contains (w ∷ [])) (sym (h refl).0) (0, omega arith, refl))
 
-module _ (g : Geometry) (m : Memory) (now : Contents) (may : Candidates) (one f : Flat) (l : IsLed g m now may one) (s : IsStanding g m now may f) where
+module _ (g : Geometry) (m : Memory) (now : Contents) (may : Candidates) (one f : Flat) (l : IsLed g m now may one) (s : IsHeld g m now may f) where
   first : 0 < g.blocks
   first = omega (arith, s.sizes.enough)
 
@@ -190,8 +203,11 @@ module _ (g : Geometry) (m : Memory) (now : Contents) (may : Candidates) (one f 
     }
 
 pub ahead_is_led : AheadIsLed
-ahead_is_led g m now may one f l s all = go m.phase refl
+ahead_is_led g m now may one f l standing all = go m.phase refl
   where
+    s : IsHeld g m now may f
+    s = held g m now may f standing
+
     go : (p : Phase) → m.phase ≡ p → IsLed g m now may f
     go Trim is = plain_led g m now may f s (inl is)
     go Arming is = in_arming g m now may one f l s is

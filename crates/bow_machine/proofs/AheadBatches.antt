@@ -25,7 +25,7 @@ use Rattle.bow_machine.specs.Memory.{Memory, Batch, Empty, Batching}
 use Rattle.bow_machine.specs.Calls.{Call, Reply, Failed, Succeeded, Gave, Does, WriteCall, FlushCall}
 use Rattle.bow_machine.specs.Tasks.{spelling}
 use Rattle.bow_machine.specs.Steps.{Moved, one_block, log_for, kinds_for, batch_step, call_of_act}
-use Rattle.bow_machine.specs.Standing.{IsKept, CopyHeld, JobHeld, BatchHeld, IsStanding}
+use Rattle.bow_machine.proofs.Held.{IsKept, CopyHeld, JobHeld, BatchHeld, IsHeld}
 use Rattle.bow_machine.specs.Ahead.{Shows0, IsPlace0, IsLedIn}
 use Rattle.bow_machine.proofs.Tables.{length_with}
 use Rattle.bow_machine.proofs.BatchActs.{lead, running, log_act, last_act, lead_copy, copy_reads, copy_writes, copy_flush}
@@ -54,7 +54,7 @@ module _ (g : Geometry) (sizes : IsValid g) (m : Memory) (t : Ticket) (log : Gen
   module _ (job : Job) (done : ℕ) (slots : List (List ℕ)) (below : done < lead job) (led : kind_at m.kinds log.current ≡ Current → LedAt m.kinds log now may) where
     -- the batch after its act, with this buffer
     abbrev Further : List (List ℕ) → Type 0
-    Further buffer = IsStanding g (at_work m job (done + 1) buffer t log) new_now new_may f
+    Further buffer = IsHeld g (at_work m job (done + 1) buffer t log) new_now new_may f
 
     -- what the act has to be: no log is written, and what is written was picked
     abbrev IsLead : Act → Type 0
@@ -242,7 +242,7 @@ module _ (g : Geometry) (sizes : IsValid g) (m : Memory) (t : Ticket) (log : Gen
 
 module _ (g : Geometry) (m : Memory) (log : Generation) (f : Flat) (now new_now : Contents) (may new_may : Candidates) (reply : Reply) where
   -- the same of any batch: none that is in hand has failed
-  pub batch_led : (b : Batch) → IsStanding g (working m (Batching b) log) now may f → IsLedIn g Checkpoint m.kinds (Some log) now may f.pending
+  pub batch_led : (b : Batch) → IsHeld g (working m (Batching b) log) now may f → IsLedIn g Checkpoint m.kinds (Some log) now may f.pending
       → Does g (call_of_act g (working m (Batching b) log) b (next_act b.progress)) reply now may new_now new_may → (reply ≡ Failed → Some (call_of_act g (working m (Batching b) log) b (next_act b.progress)) ≡ None)
       → StepLed g new_now new_may f (batch_step g (working m (Batching b) log) b reply)
   batch_led b s l does ok = subst Step_led (ap running_or (sym runs))
@@ -255,5 +255,5 @@ module _ (g : Geometry) (m : Memory) (log : Generation) (f : Flat) (now new_now 
       running_or failed = record { progress = record { job = b.progress.job; done = b.progress.done; failed = failed }; slots = b.slots; ticket = b.ticket }
 
       Step_led : Batch → Type 0
-      Step_led c = IsStanding g (working m (Batching c) log) now may f → Does g (call_of_act g (working m (Batching c) log) c (next_act c.progress)) reply now may new_now new_may
+      Step_led c = IsHeld g (working m (Batching c) log) now may f → Does g (call_of_act g (working m (Batching c) log) c (next_act c.progress)) reply now may new_now new_may
           → (reply ≡ Failed → Some (call_of_act g (working m (Batching c) log) c (next_act c.progress)) ≡ None) → StepLed g new_now new_may f (batch_step g (working m (Batching c) log) c reply)

@@ -28,7 +28,8 @@ use Rattle.bow_machine.specs.Memory.{Memory, Hand, Empty, Batching, Preparing, C
 use Rattle.bow_machine.specs.Calls.{Reply, Failed, Succeeded, Gave, Does, DoesIt}
 use Rattle.bow_machine.specs.Tasks.{Task, Waits, Answers, WritesBlock, ReadsBlock, FlushesFor, DiscardsFor, Acts, Command, prepare_on, without_picked, taken, first_of, take_first, command_task, task_of, spelling}
 use Rattle.bow_machine.specs.Steps.{log_of_memory, log_or_blank, first_log, armed, call_of_prepare, prepare_step, call_of_commit, commit_step, released, answered_for, answered, moved, committing_events, act_step, call_in_hand}
-use Rattle.bow_machine.specs.Standing.{PrepareHeld, CommitHeld, FoundIn, ForCommand, HandHeld, IsStanding}
+use Rattle.bow_machine.specs.MemoryIsSound.{FoundIn}
+use Rattle.bow_machine.proofs.Held.{PrepareHeld, CommitHeld, ForCommand, HandHeld, IsHeld}
 use Rattle.bow_machine.specs.Ahead.{Shows0, IsPlace0, BeginsLog, IsLedIn, IsLed}
 use Rattle.bow_machine.proofs.Spelled.{spelled}
 use Rattle.bow_machine.proofs.BatchStands.{place_other}
@@ -42,7 +43,7 @@ begins_not : {A : Type 0} (v : List ℕ) → (HasMagic v → ⊥) → BeginsLog 
 begins_not v plain (inl at) = absurd (grind arith)
 begins_not v plain (inr magic) = absurd (plain magic)
 
-module _ (g : Geometry) (m : Memory) (now new_now : Contents) (may new_may : Candidates) (f : Flat) (s : IsStanding g m now may f) (l : IsLed g m now may f) (t : Ticket) (waits : ForCommand m.requests t) where
+module _ (g : Geometry) (m : Memory) (now new_now : Contents) (may new_may : Candidates) (f : Flat) (s : IsHeld g m now may f) (l : IsLed g m now may f) (t : Ticket) (waits : ForCommand m.requests t) where
   -- the request is answered: that of the command still waits
   answer_led : (n : Memory) (outcome : Request → Outcome) (happens : Request → List Event) → ((r : Request) → StepLed g new_now new_may f (answered n r (outcome r) (happens r)))
       → StepLed g new_now new_may f (answered_for n (request_of t m.requests) outcome happens)
@@ -190,7 +191,7 @@ module _ (g : Geometry) (m : Memory) (now new_now : Contents) (may new_may : Can
 -- The turn.
 
 -- an act of the command in hand
-hand_led : (g : Geometry) (m : Memory) (now new_now : Contents) (may new_may : Candidates) (f : Flat) (hand : Hand) (reply : Reply) → m.hand ≡ hand → has_command hand ≡ true → IsStanding g m now may f → IsLed g m now may f
+hand_led : (g : Geometry) (m : Memory) (now new_now : Contents) (may new_may : Candidates) (f : Flat) (hand : Hand) (reply : Reply) → m.hand ≡ hand → has_command hand ≡ true → IsHeld g m now may f → IsLed g m now may f
     → DoesIt g (call_in_hand g m hand) reply now may new_now new_may → (reply ≡ Failed → call_in_hand g m hand ≡ None) → StepLed g new_now new_may f (act_step g now m hand reply)
 hand_led g m now new_now may new_may f Empty reply is command s l does ok = absurd (grind arith)
 hand_led g m now new_now may new_may f (Batching b) reply is command s l does ok = absurd (grind arith)
@@ -243,7 +244,7 @@ module _ (g : Geometry) (m : Memory) (now : Contents) (may : Candidates) (f : Fl
   acts_led (Committing t again act) = l
 
 -- A turn of the commands.
-pub command_leads : (g : Geometry) (m : Memory) (now new_now : Contents) (may new_may : Candidates) (f : Flat) (reply : Reply) → IsStanding g m now may f → IsLed g m now may f → Leads g m now may new_now new_may f reply (task_of g m Command)
+pub command_leads : (g : Geometry) (m : Memory) (now new_now : Contents) (may new_may : Candidates) (f : Flat) (reply : Reply) → IsHeld g m now may f → IsLed g m now may f → Leads g m now may new_now new_may f reply (task_of g m Command)
 command_leads g m now new_now may new_may f reply s l = go (task_of g m Command) (command_acts g m now may f s) (acts_led g m now may f l m.hand)
   where
     go : (task : Task) → IsCommandTask g now may f task → ActsLed g now may f task → Leads g m now may new_now new_may f reply task

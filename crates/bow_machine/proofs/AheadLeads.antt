@@ -21,7 +21,7 @@ use Rattle.bow_guard.proofs.Device.{one_of, given_cases}
 use Rattle.bow_guard.proofs.Phases.{may_plain}
 use Rattle.bow_ranges.specs.Kinds.{kind_at, with_kind, holds}
 use Rattle.bow_machine.specs.Memory.{Memory}
-use Rattle.bow_machine.specs.Standing.{Kept, IsStanding}
+use Rattle.bow_machine.proofs.Held.{Kept, IsHeld}
 use Rattle.bow_machine.specs.Ahead.{Shows0, IsPlace0, BeginsLog, IsLedIn, IsLed}
 use Rattle.bow_machine.proofs.Tables.{kind_with}
 use Rattle.bow_machine.proofs.Mapped.{IsOpen}
@@ -223,7 +223,7 @@ module _ (g : Geometry) (sizes : IsValid g) where
   }
 
 -- In Trim and once committed, each candidate of block 0 begins with no magic, and each candidate is pending.
-pub plain_led : (g : Geometry) (m : Memory) (now : Contents) (may : Candidates) (f : Flat) → IsStanding g m now may f → (m.phase ≡ Trim) ⊎ (m.phase ≡ Committed) → IsLed g m now may f
+pub plain_led : (g : Geometry) (m : Memory) (now : Contents) (may : Candidates) (f : Flat) → IsHeld g m now may f → (m.phase ≡ Trim) ⊎ (m.phase ≡ Committed) → IsLed g m now may f
 plain_led g m now may f s is = go m.phase is refl m.log refl s.kept
   where
     made : m.phase ≢ Checkpoint → m.log ≡ None → IsPending g f may → IsLed g m now may f

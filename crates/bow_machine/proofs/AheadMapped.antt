@@ -20,12 +20,13 @@ use Rattle.bow_queue.specs.Requests.{open_writes}
 use Rattle.bow_ranges.specs.Kinds.{kind_at, reclaimed}
 use Rattle.bow_machine.proofs.Known.{may_dropped}
 use Rattle.bow_machine.proofs.MappedWrites.{written_other}
-use Rattle.bow_machine.specs.Requests.{Request, request_of, waiting_of, refusal}
+use Rattle.bow_machine.specs.Requests.{Request, request_of, refusal}
 use Rattle.bow_machine.specs.Memory.{Memory, has_command, has_move, may_be_written, is_direct, kinds_written, place_of, place_with}
 use Rattle.bow_machine.specs.Calls.{Reply, Failed, Succeeded, Gave, ReadCall, WriteCall, FlushCall}
 use Rattle.bow_machine.specs.Tasks.{Map, Task, Waits, Answers, WritesBlock, ReadsBlock, FlushesFor, DiscardsFor, unless_refused, unless_command, is_waiting, task_for, map_task, task_of}
 use Rattle.bow_machine.specs.Steps.{extent_of, next_block, kinds_discarded, step_of}
-use Rattle.bow_machine.specs.Standing.{IsRequest, IsStanding}
+use Rattle.bow_machine.specs.MemoryIsSound.{IsRequest}
+use Rattle.bow_machine.proofs.Held.{IsHeld}
 use Rattle.bow_machine.specs.Ahead.{IsPlace0, IsLedIn, IsLed}
 use Rattle.bow_machine.proofs.RequestLists.{found_request}
 use Rattle.bow_machine.proofs.Tables.{kind_freed}
@@ -56,7 +57,7 @@ settled_cases A Checkpoint settled plain at = at refl
 settled_cases A Deciding settled plain at = absurd (settled.1 refl)
 settled_cases A Committed settled plain at = plain (inr refl)
 
-module _ (g : Geometry) (m : Memory) (now new_now : Contents) (may new_may : Candidates) (f : Flat) (s : IsStanding g m now may f) (l : IsLed g m now may f) where
+module _ (g : Geometry) (m : Memory) (now new_now : Contents) (may new_may : Candidates) (f : Flat) (s : IsHeld g m now may f) (l : IsLed g m now may f) where
   -- the disk is the same
   same : new_now ≡ now → new_may ≡ may → IsLed g m new_now new_may f
   same same_now same_may = disk_led g m.phase m.kinds m.log f.pending now new_now may new_may same_now same_may l
@@ -142,7 +143,7 @@ module _ (g : Geometry) (m : Memory) (now new_now : Contents) (may new_may : Can
   }
     where
       but : List Extent
-      but = open_writes g.blocks (waiting_of m.requests)
+      but = open_writes g.blocks m.requests
 
       -- a block that is freed was changed
       freed : (x : ℕ) → x < length m.kinds → IsPlace0 (kind_at m.kinds x) → IsPlace0 (kind_at (reclaimed m.kinds e but) x)

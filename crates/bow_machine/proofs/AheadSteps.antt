@@ -12,7 +12,7 @@ use Rattle.bow_machine.specs.Memory.{Memory}
 use Rattle.bow_machine.specs.Calls.{Call, Reply, Failed, DoesIt}
 use Rattle.bow_machine.specs.Tasks.{Task}
 use Rattle.bow_machine.specs.Steps.{Step, call_of, step_of}
-use Rattle.bow_machine.specs.Standing.{IsKept, Kept, IsStanding}
+use Rattle.bow_machine.proofs.Held.{IsKept, Kept, IsHeld}
 use Rattle.bow_machine.specs.Laws.{after_all}
 use Rattle.bow_machine.proofs.Committed.{checkpoint_facts, deciding_facts}
 use Rattle.bow_machine.proofs.Prepared.{arming_facts}
@@ -25,7 +25,7 @@ LedAfter g now may f step = IsLed g step.memory now may (after_all g.blocks step
 
 -- it stands after it
 abbrev pub Stands : Geometry → Contents → Candidates → Flat → Step → Type 0
-Stands g now may f step = IsStanding g step.memory now may (after_all g.blocks step.events f)
+Stands g now may f step = IsHeld g step.memory now may (after_all g.blocks step.events f)
 
 -- it is led, where it stands
 abbrev pub StepLed : Geometry → Contents → Candidates → Flat → Step → Type 0
@@ -52,11 +52,11 @@ disk_led g phase kinds log pending now new_now may new_may same_now same_may l =
 abbrev pub LogKept : Geometry → Memory → Contents → Candidates → Flat → Phase → Type 0
 LogKept g m now may f phase = (log : Generation) × (m.log ≡ Some log) × IsKept g m now may f phase log
 
-pub log_in_checkpoint : (g : Geometry) (m : Memory) (now : Contents) (may : Candidates) (f : Flat) → IsStanding g m now may f → m.phase ≡ Checkpoint → LogKept g m now may f Checkpoint
+pub log_in_checkpoint : (g : Geometry) (m : Memory) (now : Contents) (may : Candidates) (f : Flat) → IsHeld g m now may f → m.phase ≡ Checkpoint → LogKept g m now may f Checkpoint
 log_in_checkpoint g m now may f s is = checkpoint_facts g m now may f m.log (subst (λ p. Kept g m now may f p m.log) is s.kept)
 
-pub log_in_arming : (g : Geometry) (m : Memory) (now : Contents) (may : Candidates) (f : Flat) → IsStanding g m now may f → m.phase ≡ Arming → LogKept g m now may f Arming
+pub log_in_arming : (g : Geometry) (m : Memory) (now : Contents) (may : Candidates) (f : Flat) → IsHeld g m now may f → m.phase ≡ Arming → LogKept g m now may f Arming
 log_in_arming g m now may f s is = arming_facts g m now may f m.log (subst (λ p. Kept g m now may f p m.log) is s.kept)
 
-pub log_in_deciding : (g : Geometry) (m : Memory) (now : Contents) (may : Candidates) (f : Flat) → IsStanding g m now may f → m.phase ≡ Deciding → LogKept g m now may f Deciding
+pub log_in_deciding : (g : Geometry) (m : Memory) (now : Contents) (may : Candidates) (f : Flat) → IsHeld g m now may f → m.phase ≡ Deciding → LogKept g m now may f Deciding
 log_in_deciding g m now may f s is = deciding_facts g m now may f m.log (subst (λ p. Kept g m now may f p m.log) is s.kept)

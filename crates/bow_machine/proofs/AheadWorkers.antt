@@ -22,7 +22,7 @@ use Rattle.bow_machine.specs.Requests.{Request}
 use Rattle.bow_machine.specs.Memory.{Memory, Hand, Empty, Batching, Preparing, Committing, is_kind_current}
 use Rattle.bow_machine.specs.Calls.{Reply}
 use Rattle.bow_machine.specs.Tasks.{Worker, Task, Acts, batch_for, on_picked, copied_from, copy_onto, spelling, formed, formed_for, head, serve, worker_task, task_of}
-use Rattle.bow_machine.specs.Standing.{IsKept, HandHeld, IsStanding}
+use Rattle.bow_machine.proofs.Held.{IsKept, HandHeld, IsHeld}
 use Rattle.bow_machine.specs.Ahead.{IsPlace0, IsLedIn, IsLed}
 use Rattle.bow_machine.proofs.BatchActs.{lead, lead_copy}
 use Rattle.bow_machine.proofs.BatchStands.{working}
@@ -36,7 +36,7 @@ saved_not : (A : Type 0) (k : Kind) → IsPlace0 k → (k ≡ kinds.Saved → �
 saved_not A k (inl current) none go_on = go_on current
 saved_not A k (inr saved) none go_on = absurd (none saved)
 
-module _ (g : Geometry) (m : Memory) (log : Generation) (f : Flat) (now new_now : Contents) (may new_may : Candidates) (reply : Reply) (s : IsStanding g (working m Empty log) now may f) (l : IsLed g (working m Empty log) now may f) where
+module _ (g : Geometry) (m : Memory) (log : Generation) (f : Flat) (now new_now : Contents) (may new_may : Candidates) (reply : Reply) (s : IsHeld g (working m Empty log) now may f) (l : IsLed g (working m Empty log) now may f) where
   abbrev Good : Task → Type 0
   Good task = Leads g (working m Empty log) now may new_now new_may f reply task
 
@@ -79,19 +79,19 @@ module _ (g : Geometry) (m : Memory) (log : Generation) (f : Flat) (now new_now 
   serve_led (Some r) = formed_for_led r r.op
 
 module _ (g : Geometry) (f : Flat) (now new_now : Contents) (may new_may : Candidates) (reply : Reply) where
-  task_led : (m : Memory) (hand : Hand) (phase : Phase) → m.hand ≡ hand → m.phase ≡ phase → IsStanding g m now may f → IsLed g m now may f → Leads g m now may new_now new_may f reply (worker_task g m hand phase)
+  task_led : (m : Memory) (hand : Hand) (phase : Phase) → m.hand ≡ hand → m.phase ≡ phase → IsHeld g m now may f → IsLed g m now may f → Leads g m now may new_now new_may f reply (worker_task g m hand phase)
   task_led m (Batching b) phase is at s l = go m.log refl (subst (λ h. HandHeld g m h now may m.log) is s.in_hand)
     where
       go : (o : Option Generation) → m.log ≡ o → HandHeld g m (Batching b) now may o → Leads g m now may new_now new_may f reply (Acts m)
       go None none held = absurd held
       go (Some log) some held =
           let e : m ≡ working m (Batching b) log = memory_is m (Batching b) log held.phase is some in
-          subst (λ n. IsStanding g n now may f → IsLed g n now may f → Leads g n now may new_now new_may f reply (Acts n)) (sym e)
+          subst (λ n. IsHeld g n now may f → IsLed g n now may f → Leads g n now may new_now new_may f reply (Acts n)) (sym e)
           (λ s l. batch_led g m log f now new_now may new_may reply b s l) s l
   task_led m Empty Checkpoint is at s l =
       let log = log_in_checkpoint g m now may f s at in
       let e : m ≡ working m Empty log.0 = memory_is m Empty log.0 at is log.1 in
-      subst (λ n. IsStanding g n now may f → IsLed g n now may f → Leads g n now may new_now new_may f reply (serve g n (head g n))) (sym e)
+      subst (λ n. IsHeld g n now may f → IsLed g n now may f → Leads g n now may new_now new_may f reply (serve g n (head g n))) (sym e)
       (λ s l. serve_led g m log.0 f now new_now may new_may reply s l (head g (working m Empty log.0))) s l
   task_led m Empty Trim is at s l = nothing_leads g m now new_now may new_may f s l reply
   task_led m Empty Arming is at s l = nothing_leads g m now new_now may new_may f s l reply
@@ -101,5 +101,5 @@ module _ (g : Geometry) (f : Flat) (now new_now : Contents) (may new_may : Candi
   task_led m (Committing t again act) phase is at s l = nothing_leads g m now new_now may new_may f s l reply
 
   -- A turn of the worker.
-  pub worker_leads : (m : Memory) → IsStanding g m now may f → IsLed g m now may f → Leads g m now may new_now new_may f reply (task_of g m Worker)
+  pub worker_leads : (m : Memory) → IsHeld g m now may f → IsLed g m now may f → Leads g m now may new_now new_may f reply (task_of g m Worker)
   worker_leads m s l = task_led m m.hand m.phase refl refl s l

@@ -16,7 +16,8 @@ use Rattle.bow_ranges.specs.Kinds.{kind_at}
 use Rattle.bow_machine.specs.Requests.{Request, request_of, without_request, refusal}
 use Rattle.bow_machine.specs.Memory.{Memory, Empty, place_with, may_be_written}
 use Rattle.bow_machine.specs.Steps.{Step, extent_of, next_block, fault_events, fault_after, answered, answered_for}
-use Rattle.bow_machine.specs.Standing.{IsKept, ForWrite}
+use Rattle.bow_machine.specs.MemoryIsSound.{ForWrite}
+use Rattle.bow_machine.proofs.Held.{IsKept}
 use Rattle.bow_machine.proofs.RequestLists.{each_without}
 use Rattle.bow_machine.proofs.Tickets.{own_without}
 use Rattle.bow_machine.proofs.Hands.{kept_handed, kept_over, Keeps}

@@ -16,7 +16,8 @@ use Rattle.bow_ranges.specs.Kinds.{holds}
 use Rattle.bow_machine.specs.Memory.{Memory}
 use Rattle.bow_machine.specs.Calls.{Reply, Does}
 use Rattle.bow_machine.specs.Steps.{batch_step, call_of_act}
-use Rattle.bow_machine.specs.Standing.{ForWrite, CopyHeld}
+use Rattle.bow_machine.specs.MemoryIsSound.{ForWrite}
+use Rattle.bow_machine.proofs.Held.{CopyHeld}
 use Rattle.bow_machine.proofs.BatchActs.{lead, running, lead_copy, copy_reads, copy_writes, copy_flush}
 use Rattle.bow_machine.proofs.BatchStands.{Working}
 use Rattle.bow_machine.proofs.Hands.{Keeps}

@@ -16,6 +16,7 @@ use Rattle.bow_copy.specs.declared.jobs.Job.{Job}
 use Rattle.bow_copy.specs.declared.jobs.Job.TheVariants.{Copy}
 use Rattle.bow_guard.specs.Cuts.{Candidates}
 use Rattle.bow_guard.specs.Device.{Device, LogGiven}
+use Rattle.bow_guard.specs.Guard.{Guarded}
 use Rattle.bow_guard.proofs.Device.{copy_logged}
 use Rattle.bow_queue.specs.declared.tickets.Ticket.{Ticket}
 use Rattle.bow_ranges.specs.Kinds.{kind_at, with_kind, holds, is_free, count_of}
@@ -23,7 +24,8 @@ use Rattle.bow_machine.specs.Memory.{Memory, Empty, reserved, may_be_written}
 use Rattle.bow_machine.specs.Calls.{Reply, WriteTried, Does}
 use Rattle.bow_machine.specs.Tasks.{spelling}
 use Rattle.bow_machine.specs.Steps.{copy_entry, batch_step, call_of_act}
-use Rattle.bow_machine.specs.Standing.{device_of, IsKept, IsHidden, is_touched, ForWrite}
+use Rattle.bow_machine.specs.MemoryIsSound.{is_touched, ForWrite}
+use Rattle.bow_machine.proofs.Held.{device_of, IsKept, IsHidden}
 use Rattle.bow_machine.proofs.Spelled.{spelled, sum_small}
 use Rattle.bow_machine.proofs.RequestLists.{each_append}
 use Rattle.bow_machine.proofs.Tables.{holds_cases, kind_in, kind_out, count_with, count_part, table_with}
@@ -45,21 +47,21 @@ run_is now first (suc n) (v ∷ vs) long same =
     ap₂ ◌∷◌ (ap now (sym here) ∙ same 0 (omega arith))
     (run_is now (suc first) n vs (omega arith) (λ j below. let next : suc first + j ≡ first + suc j = omega arith in ap now next ∙ same (suc j) (omega arith)))
 
-start_more : (entries : List Backup) (b : Backup) → 0 < b.source → StartsWith0 entries → StartsWith0 (entries ++ b ∷ [])
+pub start_more : (entries : List Backup) (b : Backup) → 0 < b.source → StartsWith0 entries → StartsWith0 (entries ++ b ∷ [])
 start_more [] b above h = absurd h
 start_more (e ∷ es) b above h = (h.0, h.1, each_append (λ (other : Backup). 0 < other.source) es (b ∷ []) h.2 (above, tt))
 
 -- a kind from which blocks are copied
-source_not_0 : (k : Kind) → (k ≡ Unchanged) ⊎ (k ≡ BackupKind) → k ≢ Sector0
+pub source_not_0 : (k : Kind) → (k ≡ Unchanged) ⊎ (k ≡ BackupKind) → k ≢ Sector0
 source_not_0 k h = grind arith
 
-source_not_current : (k : Kind) → (k ≡ Unchanged) ⊎ (k ≡ BackupKind) → k ≢ Current
+pub source_not_current : (k : Kind) → (k ≡ Unchanged) ⊎ (k ≡ BackupKind) → k ≢ Current
 source_not_current k h = grind arith
 
-source_not_free : (k : Kind) → (k ≡ Unchanged) ⊎ (k ≡ BackupKind) → is_free k ≡ false
+pub source_not_free : (k : Kind) → (k ≡ Unchanged) ⊎ (k ≡ BackupKind) → is_free k ≡ false
 source_not_free k h = grind arith
 
-source_not_touched : (k : Kind) → (k ≡ Unchanged) ⊎ (k ≡ BackupKind) → is_touched k ≡ false
+pub source_not_touched : (k : Kind) → (k ≡ Unchanged) ⊎ (k ≡ BackupKind) → is_touched k ≡ false
 source_not_touched k h = grind arith
 
 module _ (g : Geometry) (m : Memory) (source dest count : ℕ) (slots : List (List ℕ)) (t : Ticket) (log : Generation)
@@ -156,16 +158,10 @@ module _ (g : Geometry) (m : Memory) (source dest count : ℕ) (slots : List (Li
     pub copy_spelled : log_in g (spelling g new) ≡ Some new
     copy_spelled = spelled g new w.sizes new_ok new_fits
 
-    pub copy_logs : WriteTried 0 (spelling g new) now new_now may new_may
-        → Working g (record m { kinds = kinds; clean = false }) Empty new new_now new_may f
-    copy_logs tried =
-        log_changed g m log new kinds (batching job (lead job) slots t) now new_now may new_may f (spelling g new) k.older w tried
-        (copy_logged g f.used f.saved before after entry backup_ok given (k.clean clean) k.leaves refl refl new_ok made sum)
-        (table_with g m.kinds source_extent Saved (λ e. absurd (grind arith)) h.source_inside (inl source_above) w.table)
-        k.own new_fits (kept_kind log.current current_out ∙ k.current) k.current_inside
-        (each_kind (λ x kind. x < g.blocks → kind ≡ Current → x ≡ log.current) (λ j below on is. absurd (grind arith)) (λ x out on is. k.only_current x on is))
-        (each_kind (λ x kind. IsHidden kind → IsHidden (kind_at m.kinds x)) (λ j below hidden. absurd (grind arith)) (λ x out hidden. hidden))
-        refl room
+    -- the older logs are the same behind it
+    pub copy_guarded : WriteTried 0 (spelling g new) now new_now may new_may
+        → Guarded g f.used f.saved (device_of (working (record m { kinds = kinds; clean = false }) Empty new) new k.older k.clean_log k.clean_older new_now new_may)
+    copy_guarded tried = copy_logged g f.used f.saved before after entry backup_ok given (k.clean clean) k.leaves refl refl new_ok made sum
       where
         before : Device
         before =
@@ -227,6 +223,17 @@ module _ (g : Geometry) (m : Memory) (source dest count : ℕ) (slots : List (Li
         sum =
             ap (sum_at source)
             (run_is new_now dest count slots full (λ j below. tried.given.others_now (dest + j) (λ is. absurd (omega (arith, dest_above))) ∙ wrote j below))
+
+    pub copy_logs : WriteTried 0 (spelling g new) now new_now may new_may
+        → Working g (record m { kinds = kinds; clean = false }) Empty new new_now new_may f
+    copy_logs tried =
+        log_changed g m log new kinds (batching job (lead job) slots t) now new_now may new_may f (spelling g new) k.older w tried
+        (copy_guarded tried)
+        (table_with g m.kinds source_extent Saved (λ e. absurd (grind arith)) h.source_inside (inl source_above) w.table)
+        k.own new_fits (kept_kind log.current current_out ∙ k.current) k.current_inside
+        (each_kind (λ x kind. x < g.blocks → kind ≡ Current → x ≡ log.current) (λ j below on is. absurd (grind arith)) (λ x out on is. k.only_current x on is))
+        (each_kind (λ x kind. IsHidden kind → IsHidden (kind_at m.kinds x)) (λ j below hidden. absurd (grind arith)) (λ x out hidden. hidden))
+        refl room
 
   pub copy_keeps : (reply : Reply) → ForWrite g (at_work m job (lead job) slots t log) t
       → CopyInHand g m source dest count slots t log f now new_now may new_may (lead job) slots now may × (m.clean ≡ true)

@@ -13,7 +13,8 @@ use Rattle.bow_ranges.specs.Kinds.{kind_at, holds}
 use Rattle.bow_machine.specs.Memory.{Memory, picks}
 use Rattle.bow_machine.specs.Calls.{Reply, Failed, Succeeded, Gave, ReadCall, WriteCall, FlushCall, WriteTried, Does}
 use Rattle.bow_machine.specs.Steps.{batch_step}
-use Rattle.bow_machine.specs.Standing.{JobHeld, ForWrite}
+use Rattle.bow_machine.specs.MemoryIsSound.{ForWrite}
+use Rattle.bow_machine.proofs.Held.{JobHeld}
 use Rattle.bow_machine.proofs.BatchActs.{lead}
 use Rattle.bow_machine.proofs.BatchStands.{Working, rehanded, block_written, all_flushed}
 use Rattle.bow_machine.proofs.BatchAnswers.{keeps_same, for_write_kept}

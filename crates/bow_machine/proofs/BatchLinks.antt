@@ -12,6 +12,7 @@ use Rattle.bow_copy.specs.Acts.{next_act}
 use Rattle.bow_copy.specs.declared.jobs.Job.TheVariants.{Link}
 use Rattle.bow_guard.specs.Cuts.{Candidates}
 use Rattle.bow_guard.specs.Device.{Device, LogGiven}
+use Rattle.bow_guard.specs.Guard.{Guarded}
 use Rattle.bow_guard.proofs.Device.{link_logged}
 use Rattle.bow_queue.specs.declared.tickets.Ticket.{Ticket}
 use Rattle.bow_ranges.specs.Kinds.{kind_at, is_free, count_of}
@@ -19,7 +20,8 @@ use Rattle.bow_machine.specs.Memory.{Memory, Empty}
 use Rattle.bow_machine.specs.Calls.{Reply, WriteTried, Does}
 use Rattle.bow_machine.specs.Tasks.{spelling}
 use Rattle.bow_machine.specs.Steps.{copy_entry, log_for, batch_step, call_of_act}
-use Rattle.bow_machine.specs.Standing.{device_of, IsKept, is_touched, ForWrite, LinkHeld}
+use Rattle.bow_machine.specs.MemoryIsSound.{is_touched, ForWrite}
+use Rattle.bow_machine.proofs.Held.{device_of, IsKept, LinkHeld}
 use Rattle.bow_machine.proofs.Spelled.{spelled, sum_small}
 use Rattle.bow_machine.proofs.BatchActs.{running}
 use Rattle.bow_machine.proofs.BatchStands.{working, Working, holds_none, holds_one, holds_other, above_0}
@@ -99,13 +101,10 @@ module _ (g : Geometry) (m : Memory) (dest : ℕ) (slots : List (List ℕ)) (t :
     pub link_spelled : log_in g (spelling g (log_for (Link dest) slots log)) ≡ Some (log_for (Link dest) slots log)
     link_spelled = spelled g new w.sizes new_ok new_fits
 
-    pub link_logs : WriteTried 0 (spelling g (log_for (Link dest) slots log)) now new_now may new_may
-        → Working g (record m { clean = false }) Empty (log_for (Link dest) slots log) new_now new_may f
-    link_logs tried =
-        log_changed g m log new m.kinds (batching (Link dest) 2 slots t) now new_now may new_may f (spelling g new)
-        (log ∷ k.older) w tried
-        (link_logged g f.used f.saved before after entry backup_ok given (k.clean clean) k.leaves refl refl refl (add-one log.sequence) refl new_ok k.own made sum)
-        w.table refl new_fits k.current k.current_inside k.only_current (λ b hidden. hidden) refl (omega (arith, room))
+    -- the full log is the first older one behind it
+    pub link_guarded : WriteTried 0 (spelling g (log_for (Link dest) slots log)) now new_now may new_may
+        → Guarded g f.used f.saved (device_of (working (record m { clean = false }) Empty new) new (log ∷ k.older) k.clean_log k.clean_older new_now new_may)
+    link_guarded tried = link_logged g f.used f.saved before after entry backup_ok given (k.clean clean) k.leaves refl refl refl (add-one log.sequence) refl new_ok k.own made sum
       where
         before : Device
         before =
@@ -143,6 +142,14 @@ module _ (g : Geometry) (m : Memory) (dest : ℕ) (slots : List (List ℕ)) (t :
 
         sum : sum_at 0 (run_of new_now dest 1) ≡ sum_at 0 slots
         sum = ap (sum_at 0) (ap (λ v. v ∷ []) there ∙ sym h.buffer)
+
+    pub link_logs : WriteTried 0 (spelling g (log_for (Link dest) slots log)) now new_now may new_may
+        → Working g (record m { clean = false }) Empty (log_for (Link dest) slots log) new_now new_may f
+    link_logs tried =
+        log_changed g m log new m.kinds (batching (Link dest) 2 slots t) now new_now may new_may f (spelling g new)
+        (log ∷ k.older) w tried
+        (link_guarded tried)
+        w.table refl new_fits k.current k.current_inside k.only_current (λ b hidden. hidden) refl (omega (arith, room))
 
   pub link_keeps : (reply : Reply) → ForWrite g (at_work m (Link dest) 2 slots t log) t
       → Held 2 2 now may × (m.clean ≡ true) → Working g m (batching (Link dest) 2 slots t) log now may f

@@ -20,7 +20,8 @@ use Rattle.bow_machine.specs.Memory.{Memory, Hand, Empty, may_be_written, place_
 use Rattle.bow_machine.specs.Calls.{Reply, Failed, Succeeded, Gave, WriteCall, FlushCall, WriteTried, Does}
 use Rattle.bow_machine.specs.Tasks.{spelling}
 use Rattle.bow_machine.specs.Steps.{batch_step, log_for, kinds_for}
-use Rattle.bow_machine.specs.Standing.{device_of, IsTable, IsHidden, is_touched, Room, IsKept, ForWrite}
+use Rattle.bow_machine.specs.MemoryIsSound.{IsTable, is_touched, ForWrite}
+use Rattle.bow_machine.proofs.Held.{device_of, IsHidden, Room, IsKept}
 use Rattle.bow_machine.proofs.Tables.{kind_unsaved, count_unsaved, table_unsaved}
 use Rattle.bow_machine.proofs.BatchActs.{lead}
 use Rattle.bow_machine.proofs.BatchStands.{working, Working, never_arming, place_cases, to_standing, rehanded, all_flushed}
@@ -107,7 +108,7 @@ module _ (g : Geometry) (m : Memory) (job : Job) (slots : List (List ℕ)) (t : 
 -- ----------------------------------------------------------------------------------------------------------------
 -- The last flush.
 
-not_unsaved : (k : Kind) → unsaved k ≢ Saved
+pub not_unsaved : (k : Kind) → unsaved k ≢ Saved
 not_unsaved Sector0 is = absurd (grind arith)
 not_unsaved Current is = absurd (grind arith)
 not_unsaved Unchanged is = absurd (grind arith)
@@ -126,7 +127,7 @@ was_hidden Changed h = h
 was_hidden Backup h = h
 was_hidden Saved h = absurd (grind arith)
 
-was_current : (k : Kind) → unsaved k ≡ Current → k ≡ Current
+pub was_current : (k : Kind) → unsaved k ≡ Current → k ≡ Current
 was_current Sector0 h = h
 was_current Current h = h
 was_current Unchanged h = h

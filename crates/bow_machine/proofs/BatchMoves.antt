@@ -20,7 +20,8 @@ use Rattle.bow_machine.specs.Memory.{Memory, Empty, may_be_written}
 use Rattle.bow_machine.specs.Calls.{Reply, WriteTried, Does}
 use Rattle.bow_machine.specs.Tasks.{spelling}
 use Rattle.bow_machine.specs.Steps.{one_block, batch_step, call_of_act}
-use Rattle.bow_machine.specs.Standing.{device_of, IsKept, IsTable, IsHidden, is_touched, ForWrite, MoveHeld}
+use Rattle.bow_machine.specs.MemoryIsSound.{IsTable, is_touched, ForWrite}
+use Rattle.bow_machine.proofs.Held.{device_of, IsKept, IsHidden, MoveHeld}
 use Rattle.bow_machine.proofs.Spelled.{spelled}
 use Rattle.bow_machine.proofs.Tables.{kind_one, kind_other, count_one, length_with, table_with}
 use Rattle.bow_machine.proofs.BatchActs.{running}
@@ -37,24 +38,24 @@ abbrev pub moved_table : List Kind → ℕ → ℕ → List Kind
 moved_table table from to = with_kind (with_kind table (one_block to) Current) (one_block from) Saved
 
 module _ (table : List Kind) (from to : ℕ) (inside : from < length table) (there : to < length table) where
-  still_inside : from < length (with_kind table (one_block to) Current)
+  pub still_inside : from < length (with_kind table (one_block to) Current)
   still_inside = omega (arith, length_with table (one_block to) Current (omega (arith, there)))
 
-  moved_from : kind_at (moved_table table from to) from ≡ Saved
+  pub moved_from : kind_at (moved_table table from to) from ≡ Saved
   moved_from = kind_one (with_kind table (one_block to) Current) from Saved still_inside
 
-  moved_to : to ≢ from → kind_at (moved_table table from to) to ≡ Current
+  pub moved_to : to ≢ from → kind_at (moved_table table from to) to ≡ Current
   moved_to ne =
       kind_other (with_kind table (one_block to) Current) from Saved to still_inside ne
       ∙ kind_one table to Current there
 
-  moved_other : (x : ℕ) → x ≢ from → x ≢ to → kind_at (moved_table table from to) x ≡ kind_at table x
+  pub moved_other : (x : ℕ) → x ≢ from → x ≢ to → kind_at (moved_table table from to) x ≡ kind_at table x
   moved_other x not_from not_to =
       kind_other (with_kind table (one_block to) Current) from Saved x still_inside not_from
       ∙ kind_other table to Current x there not_to
 
   -- each block is one of the two, or as it was
-  moved_cases : (P : ℕ → Kind → Type 0) → to ≢ from → P from Saved → P to Current
+  pub moved_cases : (P : ℕ → Kind → Type 0) → to ≢ from → P from Saved → P to Current
       → ((x : ℕ) → x ≢ from → x ≢ to → P x (kind_at table x)) → (x : ℕ) → P x (kind_at (moved_table table from to) x)
   moved_cases P ne at_from at_to other x = elim (cases_eq x from) [
     | inl is ↦ subst (λ y. P y (kind_at (moved_table table from to) y)) (sym is) (subst (P from) (sym moved_from) at_from)
@@ -157,7 +158,7 @@ module _ (g : Geometry) (m : Memory) (from to : ℕ) (slots : List (List ℕ)) (
         above_0 m.kinds from w.table.zeroth
         (λ is. let clash : Current ≡ Sector0 = sym from_kind ∙ is in absurd (grind arith))
 
-    new_ok : IsGeneration g new
+    pub new_ok : IsGeneration g new
     new_ok = let v = k.leaves.log.behind.valid in record { few = v.few; current_not_0 = to_above; current_inside = h.inside; each = v.each; start = v.start }
 
     new_fits : GenerationFits new

@@ -14,7 +14,8 @@ use Rattle.bow_machine.specs.Memory.{Memory, Empty}
 use Rattle.bow_machine.specs.Calls.{Reply, WriteTried, Does}
 use Rattle.bow_machine.specs.Tasks.{spelling}
 use Rattle.bow_machine.specs.Steps.{batch_step, call_of_act}
-use Rattle.bow_machine.specs.Standing.{device_of, IsKept, ForWrite}
+use Rattle.bow_machine.specs.MemoryIsSound.{ForWrite}
+use Rattle.bow_machine.proofs.Held.{device_of, IsKept}
 use Rattle.bow_machine.proofs.Spelled.{spelled}
 use Rattle.bow_machine.proofs.BatchActs.{running}
 use Rattle.bow_machine.proofs.BatchStands.{working, Working, rehanded}

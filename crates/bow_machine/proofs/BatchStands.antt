@@ -19,7 +19,8 @@ use Rattle.bow_guard.proofs.Device.{loose_write, flushed, kinds_changed}
 use Rattle.bow_ranges.specs.Kinds.{kind_at, with_kind, holds, is_free, count_of}
 use Rattle.bow_machine.specs.Memory.{Memory, Hand, Empty, reserved, place_with}
 use Rattle.bow_machine.specs.Calls.{WriteTried}
-use Rattle.bow_machine.specs.Standing.{device_of, IsRequest, OwnTickets, IsTable, is_touched, IsHidden, IsKept, HandHeld, IsStanding}
+use Rattle.bow_machine.specs.MemoryIsSound.{IsRequest, IsTable, is_touched}
+use Rattle.bow_machine.proofs.Held.{device_of, OwnTickets, IsHidden, IsKept, HandHeld, IsHeld}
 use Rattle.bow_machine.specs.Steps.{one_block}
 use Rattle.bow_machine.proofs.Hands.{kept_handed, kept_over}
 use Rattle.bow_machine.proofs.MappedWrites.{may_none}
@@ -109,11 +110,11 @@ one_held vs v is = subst (λ us. Contains us v) (sym is) (0, omega arith, refl)
 module _ (g : Geometry) where
   pub to_standing : (m : Memory) (hand : Hand) (log : Generation) (now : Contents) (may : Candidates) (f : Flat)
       → Working g m hand log now may f → HandHeld g (working m hand log) hand now may (Some log)
-      → IsStanding g (working m hand log) now may f
+      → IsHeld g (working m hand log) now may f
   to_standing m hand log now may f w h = record { sizes = w.sizes; state = w.state; phases = w.phases; table = w.table; requests = w.requests; tickets = w.tickets; held = w.held; shown = w.shown; kept = w.kept; in_hand = h }
 
   pub from_standing : (m : Memory) (hand : Hand) (log : Generation) (now : Contents) (may : Candidates) (f : Flat)
-      → IsStanding g (working m hand log) now may f → Working g m hand log now may f
+      → IsHeld g (working m hand log) now may f → Working g m hand log now may f
   from_standing m hand log now may f s = record { sizes = s.sizes; state = s.state; phases = s.phases; table = s.table; requests = s.requests; tickets = s.tickets; held = s.held; shown = s.shown; kept = s.kept }
 
   module _ (m : Memory) (log : Generation) (f : Flat) where

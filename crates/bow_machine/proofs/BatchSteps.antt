@@ -16,7 +16,8 @@ use Rattle.bow_machine.specs.Requests.{request_of}
 use Rattle.bow_machine.specs.Memory.{Memory, Batch, Hand, Empty, Batching, picks, reserved}
 use Rattle.bow_machine.specs.Calls.{Failed, Succeeded, Gave}
 use Rattle.bow_machine.specs.Steps.{moved, answered_for, fault_after, fault_events, log_for, kinds_for, batch_after, batch_step, is_log_write, changed}
-use Rattle.bow_machine.specs.Standing.{JobHeld, ForWrite, BatchHeld}
+use Rattle.bow_machine.specs.MemoryIsSound.{ForWrite}
+use Rattle.bow_machine.proofs.Held.{JobHeld, BatchHeld}
 use Rattle.bow_machine.proofs.BatchActs.{lead, running, not_tried, tried, lead_done, lead_failed, log_act, log_done, log_failed, last_act, last_done, last_failed}
 use Rattle.bow_machine.proofs.BatchStands.{working, Working, to_standing, gave_up}
 use Rattle.bow_machine.proofs.BatchAnswers.{batch_failed}

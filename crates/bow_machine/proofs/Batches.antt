@@ -13,7 +13,8 @@ use Rattle.bow_queue.specs.declared.tickets.Ticket.{Ticket}
 use Rattle.bow_machine.specs.Memory.{Memory, Batch, Batching}
 use Rattle.bow_machine.specs.Calls.{Reply, Does}
 use Rattle.bow_machine.specs.Steps.{batch_step, call_of_act}
-use Rattle.bow_machine.specs.Standing.{JobHeld, ForWrite, BatchHeld, IsStanding}
+use Rattle.bow_machine.specs.MemoryIsSound.{ForWrite}
+use Rattle.bow_machine.proofs.Held.{JobHeld, BatchHeld, IsHeld}
 use Rattle.bow_machine.proofs.BatchActs.{lead, running, last_act}
 use Rattle.bow_machine.proofs.BatchStands.{working, Working, from_standing}
 use Rattle.bow_machine.proofs.Hands.{Keeps}
@@ -80,7 +81,7 @@ module _ (g : Geometry) (m : Memory) (t : Ticket) (log : Generation) (f : Flat) 
       last_keeps g m job slots t log f now new_now may new_may reply h.for_write (h.after refl).0 w
       (subst (λ a. Does g (call_of_act g (at_work m job (lead job + 1) slots t log) (batch_at job (lead job + 1) slots t) a) reply now may new_now new_may) (last_act job) does)
 
-  at_stays : (job : Job) (done : ℕ) (slots : List (List ℕ)) → IsStanding g (at_work m job done slots t log) now may f
+  at_stays : (job : Job) (done : ℕ) (slots : List (List ℕ)) → IsHeld g (at_work m job done slots t log) now may f
       → Acted job done slots → Stays job done slots
   at_stays job done slots s does = elim (cases_lt done (lead job)) [
     | inl before ↦ lead_stays job done slots before h.for_write (h.before (omega arith)) (from_standing g m (batching job done slots t) log now may f s) does
@@ -97,12 +98,12 @@ module _ (g : Geometry) (m : Memory) (t : Ticket) (log : Generation) (f : Flat) 
       h = s.in_hand
 
       Step : ℕ → Type 0
-      Step d = IsStanding g (at_work m job d slots t log) now may f → Acted job d slots → Stays job d slots
+      Step d = IsHeld g (at_work m job d slots t log) now may f → Acted job d slots → Stays job d slots
 
 module _ (g : Geometry) (m : Memory) (log : Generation) (f : Flat) (now new_now : Contents) (may new_may : Candidates)
     (reply : Reply) where
   -- the same of any batch: none that is in hand has failed
-  pub batch_keeps : (b : Batch) → IsStanding g (working m (Batching b) log) now may f
+  pub batch_keeps : (b : Batch) → IsHeld g (working m (Batching b) log) now may f
       → Does g (call_of_act g (working m (Batching b) log) b (next_act b.progress)) reply now may new_now new_may
       → Keeps g new_now new_may f (batch_step g (working m (Batching b) log) b reply)
   batch_keeps b s does =
@@ -116,4 +117,4 @@ module _ (g : Geometry) (m : Memory) (log : Generation) (f : Flat) (now new_now 
       running_or failed = record { progress = record { job = b.progress.job; done = b.progress.done; failed = failed }; slots = b.slots; ticket = b.ticket }
 
       Step : Batch → Type 0
-      Step c = IsStanding g (working m (Batching c) log) now may f → Does g (call_of_act g (working m (Batching c) log) c (next_act c.progress)) reply now may new_now new_may → Keeps g new_now new_may f (batch_step g (working m (Batching c) log) c reply)
+      Step c = IsHeld g (working m (Batching c) log) now may f → Does g (call_of_act g (working m (Batching c) log) c (next_act c.progress)) reply now may new_now new_may → Keeps g new_now new_may f (batch_step g (working m (Batching c) log) c reply)

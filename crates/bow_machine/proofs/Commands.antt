@@ -24,7 +24,8 @@ use Rattle.bow_machine.specs.Memory.{Memory, Hand, Empty, Batching, Preparing, C
 use Rattle.bow_machine.specs.Calls.{Reply, DoesIt}
 use Rattle.bow_machine.specs.Tasks.{Task, Waits, Answers, WritesBlock, ReadsBlock, FlushesFor, DiscardsFor, Acts, Command, prepare_on, without_picked, taken, first_of, take_first, command_task, task_of}
 use Rattle.bow_machine.specs.Steps.{one_block, act_step, call_in_hand, call_of, step_of}
-use Rattle.bow_machine.specs.Standing.{IsTable, ForCommand, HandHeld, IsStanding}
+use Rattle.bow_machine.specs.MemoryIsSound.{IsTable}
+use Rattle.bow_machine.proofs.Held.{ForCommand, HandHeld, IsHeld}
 use Rattle.bow_machine.proofs.RequestLists.{find_passes}
 use Rattle.bow_machine.proofs.Tables.{length_with, kind_one, kind_other, count_one}
 use Rattle.bow_machine.proofs.Tickets.{found_own}
@@ -36,7 +37,7 @@ use Rattle.bow_machine.proofs.CommittedActs.{commit_keeps}
 
 -- a task that acts on what a machine has in hand that stands, which is a command
 pub record ActsOn (g : Geometry) (now : Contents) (may : Candidates) (f : Flat) (memory : Memory) : Type 0 where
-  pub stands : IsStanding g memory now may f
+  pub stands : IsHeld g memory now may f
   pub commands : has_command memory.hand ≡ true
 
 -- the task does nothing, answers a request, or acts on a command in hand
@@ -53,7 +54,7 @@ picked_free g m e table is =
     (p.free, omega (arith, p.is_run.to, p.is_run.inside, table.size), omega (arith, p.some, p.most))
 
 -- and one more, as if the first were no longer free
-picked_more : (g : Geometry) (m : Memory) (c b : Extent) → IsTable g m.kinds → c.first < g.blocks → c.count ≡ 1 → picked (with_kind m.kinds c kinds.Backup) 1 ≡ Some b
+pub picked_more : (g : Geometry) (m : Memory) (c b : Extent) → IsTable g m.kinds → c.first < g.blocks → c.count ≡ 1 → picked (with_kind m.kinds c kinds.Backup) 1 ≡ Some b
     → (kind_at m.kinds b.first ≡ kinds.Free) × (b.first < g.blocks) × (c.first ≢ b.first)
 picked_more g m c b table inside one is = (sym (kind_other m.kinds c.first kinds.Backup b.first long (λ e. apart (sym e))) ∙ free, omega (arith, p.is_run.to, p.is_run.inside, length_with m.kinds (one_block c.first) kinds.Backup (omega arith), table.size), apart)
   where
@@ -70,7 +71,7 @@ picked_more g m c b table inside one is = (sym (kind_other m.kinds c.first kinds
     apart : c.first ≢ b.first
     apart e = let clash : kinds.Backup ≡ kinds.Free = sym (kind_one m.kinds c.first kinds.Backup long) ∙ ap (kind_at (with_kind m.kinds (one_block c.first) kinds.Backup)) e ∙ free in absurd (grind arith)
 
-module _ (g : Geometry) (m : Memory) (now : Contents) (may : Candidates) (f : Flat) (k : IsStanding g m now may f) (empty : m.hand ≡ Empty) where
+module _ (g : Geometry) (m : Memory) (now : Contents) (may : Candidates) (f : Flat) (k : IsHeld g m now may f) (empty : m.hand ≡ Empty) where
   -- a command is taken in hand
   taken_on : (hand : Hand) → reserved hand ≡ reserved Empty → has_command hand ≡ true → HandHeld g (record m { hand = hand }) hand now may m.log → ActsOn g now may f (record m { hand = hand })
   taken_on hand none command held = record { stands = rehanded g now may f m hand (none ∙ sym (ap reserved empty)) held k; commands = command }
@@ -109,7 +110,7 @@ module _ (g : Geometry) (m : Memory) (now : Contents) (may : Candidates) (f : Fl
   takes_first (Some r) is = takes r (record { command = r; waits = found_own (λ q. is_command q.op) m.requests r k.tickets is; is_one = find_passes (λ q. is_command q.op) m.requests r is }) r.op m.phase refl
 
 -- what the turn does
-pub command_acts : (g : Geometry) (m : Memory) (now : Contents) (may : Candidates) (f : Flat) → IsStanding g m now may f → IsCommandTask g now may f (task_of g m Command)
+pub command_acts : (g : Geometry) (m : Memory) (now : Contents) (may : Candidates) (f : Flat) → IsHeld g m now may f → IsCommandTask g now may f (task_of g m Command)
 command_acts g m now may f k = go m.hand refl
   where
     go : (hand : Hand) → m.hand ≡ hand → IsCommandTask g now may f (command_task m hand)
@@ -119,7 +120,7 @@ command_acts g m now may f k = go m.hand refl
     go (Committing t again act) is = record { stands = k; commands = ap has_command is }
 
 -- an act of the command in hand
-pub hand_keeps : (g : Geometry) (m : Memory) (now new_now : Contents) (may new_may : Candidates) (f : Flat) (hand : Hand) (reply : Reply) → m.hand ≡ hand → has_command hand ≡ true → IsStanding g m now may f
+pub hand_keeps : (g : Geometry) (m : Memory) (now new_now : Contents) (may new_may : Candidates) (f : Flat) (hand : Hand) (reply : Reply) → m.hand ≡ hand → has_command hand ≡ true → IsHeld g m now may f
     → DoesIt g (call_in_hand g m hand) reply now may new_now new_may → Keeps g new_now new_may f (act_step g now m hand reply)
 hand_keeps g m now new_now may new_may f Empty reply is command k does = absurd (grind arith)
 hand_keeps g m now new_now may new_may f (Batching b) reply is command k does = absurd (grind arith)
@@ -132,7 +133,7 @@ IsNoAnswer (Answers r outcome) = ⊥
 IsNoAnswer task = Unit {0}
 
 -- Each task of the commands' turn but an answer, whatever the disk replies, keeps what the machine stands for.
-pub command_keeps : (g : Geometry) (m : Memory) (now new_now : Contents) (may new_may : Candidates) (f : Flat) (reply : Reply) → IsStanding g m now may f → IsNoAnswer (task_of g m Command)
+pub command_keeps : (g : Geometry) (m : Memory) (now new_now : Contents) (may new_may : Candidates) (f : Flat) (reply : Reply) → IsHeld g m now may f → IsNoAnswer (task_of g m Command)
     → DoesIt g (call_of g m (task_of g m Command)) reply now may new_now new_may → Keeps g new_now new_may f (step_of g now m (task_of g m Command) reply)
 command_keeps g m now new_now may new_may f reply k other does = go (task_of g m Command) (command_acts g m now may f k) other does
   where
@@ -220,7 +221,7 @@ prepare_space g m r table = (only, always)
     ]
 
 -- Each task of the commands' turn, whatever the disk replies, keeps what the machine stands for.
-pub command_turn_keeps : (g : Geometry) (m : Memory) (now new_now : Contents) (may new_may : Candidates) (f : Flat) (reply : Reply) → IsStanding g m now may f
+pub command_turn_keeps : (g : Geometry) (m : Memory) (now new_now : Contents) (may new_may : Candidates) (f : Flat) (reply : Reply) → IsHeld g m now may f
     → DoesIt g (call_of g m (task_of g m Command)) reply now may new_now new_may → Keeps g new_now new_may f (step_of g now m (task_of g m Command) reply)
 command_turn_keeps g m now new_now may new_may f reply k does = go (task_of g m Command) refl does
   where

@@ -19,7 +19,8 @@ use Rattle.bow_guard.proofs.PhaseActs.{deciding_written, deciding_again, decidin
 use Rattle.bow_machine.specs.Memory.{Memory, Empty, place_with, place_of}
 use Rattle.bow_machine.specs.Calls.{WriteTried}
 use Rattle.bow_machine.specs.Steps.{released}
-use Rattle.bow_machine.specs.Standing.{device_of, IsKept, Kept, FoundIn, IsStanding}
+use Rattle.bow_machine.specs.MemoryIsSound.{FoundIn}
+use Rattle.bow_machine.proofs.Held.{device_of, IsKept, Kept, IsHeld}
 use Rattle.bow_machine.proofs.Tables.{table_with, kind_in}
 use Rattle.bow_machine.proofs.Hands.{emptied, kept_over}
 use Rattle.bow_machine.proofs.Prepared.{place_above, place_not_0, held_0, shown_0}
@@ -35,7 +36,7 @@ module _ (g : Geometry) where
   deciding_facts m now may f None k = absurd k
   deciding_facts m now may f (Some log) k = (log, refl, k)
 
-  module _ (m : Memory) (now : Contents) (may : Candidates) (f : Flat) (k : IsStanding g (emptied m) now may f) where
+  module _ (m : Memory) (now : Contents) (may : Candidates) (f : Flat) (k : IsHeld g (emptied m) now may f) where
     in_checkpoint : m.phase ≡ Checkpoint → (l : Generation) × (m.log ≡ Some l) × IsKept g (emptied m) now may f Checkpoint l
     in_checkpoint is = checkpoint_facts (emptied m) now may f m.log (subst (λ p. Kept g (emptied m) now may f p m.log) is k.kept)
 
@@ -46,7 +47,7 @@ module _ (g : Geometry) where
     first_block = omega (arith, k.sizes.enough)
 
     -- a flush that is done, with no event
-    flushed_kept : (new_may : Candidates) → IsFlushed g now new_may → Kept g (emptied m) now new_may f m.phase m.log → IsStanding g (emptied m) now new_may f
+    flushed_kept : (new_may : Candidates) → IsFlushed g now new_may → Kept g (emptied m) now new_may f m.phase m.log → IsHeld g (emptied m) now new_may f
     flushed_kept new_may is kept = record {
       sizes = k.sizes;
       state = k.state;
@@ -60,7 +61,7 @@ module _ (g : Geometry) where
       in_hand = tt;
     }
 
-    pub checkpoint_flushed : (new_may : Candidates) → m.phase ≡ Checkpoint → IsFlushed g now new_may → IsStanding g (emptied m) now new_may f
+    pub checkpoint_flushed : (new_may : Candidates) → m.phase ≡ Checkpoint → IsFlushed g now new_may → IsHeld g (emptied m) now new_may f
     checkpoint_flushed new_may is all = flushed_kept new_may all (subst₂ (λ p l. Kept g (emptied m) now new_may f p l) (sym is) (sym a.1) (kept_over g (emptied m) a.0 now now may new_may f f Checkpoint Checkpoint m.phase (λ x. x) (λ b none. none) refl a.2 guarded))
       where
         a : (l : Generation) × (m.log ≡ Some l) × IsKept g (emptied m) now may f Checkpoint l
@@ -70,7 +71,7 @@ module _ (g : Geometry) where
         guarded = flushed g f.used f.saved (device_of (emptied m) a.0 a.2.older a.2.clean_log a.2.clean_older now may) (device_of (emptied m) a.0 a.2.older a.2.clean_log a.2.clean_older now new_may)
             (λ x. refl) all (k.held 0 first_block) (record { log = refl; older = refl; clean_log = refl; clean_older = refl }) (λ x. refl) (λ x. refl) a.2.leaves
 
-    pub deciding_all_flushed : (new_may : Candidates) → m.phase ≡ Deciding → IsFlushed g now new_may → IsStanding g (emptied m) now new_may f
+    pub deciding_all_flushed : (new_may : Candidates) → m.phase ≡ Deciding → IsFlushed g now new_may → IsHeld g (emptied m) now new_may f
     deciding_all_flushed new_may is all = flushed_kept new_may all (subst₂ (λ p l. Kept g (emptied m) now new_may f p l) (sym is) (sym a.1) (kept_over g (emptied m) a.0 now now may new_may f f Deciding Deciding m.phase (λ x. x) (λ b none. none) refl a.2 deciding))
       where
         a : (l : Generation) × (m.log ≡ Some l) × IsKept g (emptied m) now may f Deciding l
@@ -79,7 +80,7 @@ module _ (g : Geometry) where
         deciding : IsDeciding g f (now a.0.current) (device_of (emptied m) a.0 a.2.older a.2.clean_log a.2.clean_older now new_may)
         deciding = deciding_flushed g f (device_of (emptied m) a.0 a.2.older a.2.clean_log a.2.clean_older now may) new_may (now a.0.current) all (k.held 0 first_block) a.2.leaves
 
-  module _ (m : Memory) (now new_now : Contents) (may new_may : Candidates) (f : Flat) (content : List ℕ) (k : IsStanding g (emptied m) now may f)
+  module _ (m : Memory) (now new_now : Contents) (may new_may : Candidates) (f : Flat) (content : List ℕ) (k : IsHeld g (emptied m) now may f)
       (read : content ≡ now (place_of m 0)) (tried : WriteTried 0 content now new_now may new_may) where
     -- what the current block 0 holds, before and after
     same_current : (log : Generation) → IsGeneration g log → new_now log.current ≡ now log.current
@@ -94,7 +95,7 @@ module _ (g : Geometry) where
     same_place true is = let a = in_deciding m now may f k is in tried.given.others_now (place_of m 0) (subst (λ l. place_with l 0 ≢ 0) (sym a.1) (place_not_0 g a.0 a.2.leaves.log.behind.valid 0))
 
     -- the deciding write, done or failed
-    pub decided : m.phase ≡ Checkpoint → IsFlushed g now may → IsStanding g (record m { phase = Deciding; hand = Empty }) new_now new_may (after g.blocks Decides f)
+    pub decided : m.phase ≡ Checkpoint → IsFlushed g now may → IsHeld g (record m { phase = Deciding; hand = Empty }) new_now new_may (after g.blocks Decides f)
     decided is all = record {
       sizes = k.sizes;
       state = stays_valid g.blocks Decides f k.state (k.phases ∙ is) tt;
@@ -127,7 +128,7 @@ module _ (g : Geometry) where
             (λ x above inside. subst (λ y. May (f.current x) (now y)) (place_above m.log x above) (k.shown x inside)))
 
     -- it is made once more
-    pub decided_again : m.phase ≡ Deciding → IsStanding g (record m { phase = Deciding; hand = Empty }) new_now new_may f
+    pub decided_again : m.phase ≡ Deciding → IsHeld g (record m { phase = Deciding; hand = Empty }) new_now new_may f
     decided_again is = record {
       sizes = k.sizes;
       state = k.state;
@@ -156,7 +157,7 @@ module _ (g : Geometry) where
             (deciding_again g f (device_of (emptied m) log a.2.older a.2.clean_log a.2.clean_older now may) new_now new_may content tried.given
             (subst (λ v. IsDeciding g f v (device_of (emptied m) log a.2.older a.2.clean_log a.2.clean_older now may)) (sym (read_current log a.1)) a.2.leaves))
 
-  module _ (m : Memory) (now : Contents) (may new_may : Candidates) (f : Flat) (k : IsStanding g (emptied m) now may f) (is : m.phase ≡ Deciding) (wrote : now 0 ≡ now (place_of m 0)) (all : IsFlushed g now new_may) where
+  module _ (m : Memory) (now : Contents) (may new_may : Candidates) (f : Flat) (k : IsHeld g (emptied m) now may f) (is : m.phase ≡ Deciding) (wrote : now 0 ≡ now (place_of m 0)) (all : IsFlushed g now new_may) where
     a : (l : Generation) × (m.log ≡ Some l) × IsKept g (emptied m) now may f Deciding l
     a = in_deciding m now may f k is
 
@@ -167,7 +168,7 @@ module _ (g : Geometry) where
     above = record { first = 1; count = length m.kinds - 1 }
 
     -- the checkpoint is given up
-    let_go : (h : Flat) → h.phase ≡ Committed → IsState h → h.current ≡ f.current → IsPending g h new_may → IsStanding g (released m) now new_may h
+    let_go : (h : Flat) → h.phase ≡ Committed → IsState h → h.current ≡ f.current → IsPending g h new_may → IsHeld g (released m) now new_may h
     let_go h phase state current pending = record {
       sizes = k.sizes;
       state = state;
@@ -185,11 +186,11 @@ module _ (g : Geometry) where
         show zero inside = subst (May (f.current 0)) (sym wrote) (k.shown 0 inside)
         show (suc x) inside = subst (λ y. May (f.current (suc x)) (now y)) (place_above m.log (suc x) (omega arith)) (k.shown (suc x) inside)
 
-    pub released_stands : IsStanding g (released m) now new_may (after g.blocks Commits f)
+    pub released_stands : IsHeld g (released m) now new_may (after g.blocks Commits f)
     released_stands = let_go (after g.blocks Commits f) refl (stays_valid g.blocks Commits f k.state (k.phases ∙ is) tt) refl
         (committed_flushed g f g.blocks (device_of (emptied m) a.0 a.2.older a.2.clean_log a.2.clean_older now may) (now a.0.current) new_may k.state a.2.leaves wrote_current all)
 
     -- and one that was made again is flushed, too
-    pub released_again : IsStanding g (released m) now new_may (after g.blocks Commits (after g.blocks Flushes f))
+    pub released_again : IsHeld g (released m) now new_may (after g.blocks Commits (after g.blocks Flushes f))
     released_again = let_go (after g.blocks Commits (after g.blocks Flushes f)) refl (stays_valid g.blocks Commits (after g.blocks Flushes f) (stays_valid g.blocks Flushes f k.state tt tt) (k.phases ∙ is) tt) refl
         (committed_again g f g.blocks (device_of (emptied m) a.0 a.2.older a.2.clean_log a.2.clean_older now may) (now a.0.current) new_may a.2.leaves wrote_current all)

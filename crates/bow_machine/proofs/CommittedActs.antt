@@ -12,7 +12,8 @@ use Rattle.bow_machine.specs.Requests.{request_of}
 use Rattle.bow_machine.specs.Memory.{Memory, Hand, Empty, Committing, CommitAct, FlushesAll, ReadsCurrent, WritesBlock0, FlushesDecision, reserved}
 use Rattle.bow_machine.specs.Calls.{Reply, Failed, Succeeded, Gave, Does}
 use Rattle.bow_machine.specs.Steps.{answered_for, call_of_commit, commit_step, deciding_events, released}
-use Rattle.bow_machine.specs.Standing.{FoundIn, CommitHeld, ForCommand, HandHeld, IsStanding}
+use Rattle.bow_machine.specs.MemoryIsSound.{FoundIn}
+use Rattle.bow_machine.proofs.Held.{CommitHeld, ForCommand, HandHeld, IsHeld}
 use Rattle.bow_machine.proofs.Hands.{emptied, rehanded, same_disk, Keeps, goes_on, ends}
 use Rattle.bow_machine.proofs.Committed.{checkpoint_flushed, deciding_all_flushed, decided, decided_again, same_place, released_stands, released_again}
 
@@ -29,21 +30,21 @@ at_end : (again : Bool) → deciding_events again FlushesDecision ≡ []
 at_end false = refl
 at_end true = refl
 
-module _ (g : Geometry) (m : Memory) (now new_now : Contents) (may new_may : Candidates) (f : Flat) (t : Ticket) (waits : ForCommand m.requests t) (e : IsStanding g (emptied m) now may f) where
+module _ (g : Geometry) (m : Memory) (now new_now : Contents) (may new_may : Candidates) (f : Flat) (t : Ticket) (waits : ForCommand m.requests t) (e : IsHeld g (emptied m) now may f) where
   -- an act that failed and decided nothing
-  failed : (again : Bool) (act : CommitAct) → deciding_events again act ≡ [] → IsStanding g (emptied m) new_now new_may f
+  failed : (again : Bool) (act : CommitAct) → deciding_events again act ≡ [] → IsHeld g (emptied m) new_now new_may f
       → Keeps g new_now new_may f (answered_for (emptied m) (request_of t m.requests) (λ r. outcomes.DiskFault 0) (λ r. deciding_events again act))
   failed again act none k = subst (λ es. Keeps g new_now new_may f (answered_for (emptied m) (request_of t m.requests) (λ r. outcomes.DiskFault 0) (λ r. es))) (sym none) (ends g m new_now new_may f t (λ r. outcomes.DiskFault 0) [] waits tt k)
 
   -- the next act
-  next : (again : Bool) (act : CommitAct) → CommitHeld g (record m { hand = Committing t again act }) again act new_now new_may → IsStanding g (emptied m) new_now new_may f → IsStanding g (record m { hand = Committing t again act }) new_now new_may f
+  next : (again : Bool) (act : CommitAct) → CommitHeld g (record m { hand = Committing t again act }) again act new_now new_may → IsHeld g (emptied m) new_now new_may f → IsHeld g (record m { hand = Committing t again act }) new_now new_may f
   next again act held k = rehanded g new_now new_may f (emptied m) (Committing t again act) refl (held, waits) k
 
   found : (again : Bool) (hand : Hand) → FoundIn m again → FoundIn (record m { hand = hand }) again
   found false hand is = is
   found true hand is = is
 
-  all_flushed : (again : Bool) → FoundIn m again → IsFlushed g now new_may → IsStanding g (emptied m) now new_may f
+  all_flushed : (again : Bool) → FoundIn m again → IsFlushed g now new_may → IsHeld g (emptied m) now new_may f
   all_flushed false is all = checkpoint_flushed g m now may f e new_may is all
   all_flushed true is all = deciding_all_flushed g m now may f e new_may is all
 
@@ -77,7 +78,7 @@ module _ (g : Geometry) (m : Memory) (now new_now : Contents) (may new_may : Can
   acts again FlushesDecision (Gave v) p does = absurd does
 
 -- a commit that is in hand
-pub commit_keeps : (g : Geometry) (m : Memory) (now new_now : Contents) (may new_may : Candidates) (f : Flat) (t : Ticket) (again : Bool) (act : CommitAct) (reply : Reply) → m.hand ≡ Committing t again act → IsStanding g m now may f
+pub commit_keeps : (g : Geometry) (m : Memory) (now new_now : Contents) (may new_may : Candidates) (f : Flat) (t : Ticket) (again : Bool) (act : CommitAct) (reply : Reply) → m.hand ≡ Committing t again act → IsHeld g m now may f
     → Does g (call_of_commit m act) reply now may new_now new_may → Keeps g new_now new_may f (commit_step m t again act reply)
 commit_keeps g m now new_now may new_may f t again act reply hand k does =
     let held = subst (λ h. HandHeld g m h now may m.log) hand k.in_hand in

@@ -1,5 +1,5 @@
 -- What follows from what the machine stands for.
-use Rattle.std.proofs.Common.{ℕ, ◌<◌, ◌≡◌, Bool, true, false, not, List, ◌∷◌, Option, Some, None, arith, refl, sym, ap, ◌∙◌, subst, inl, inr}
+use Rattle.std.proofs.Common.{ℕ, ◌<◌, ◌≡◌, Bool, true, false, List, ◌∷◌, Option, Some, None, arith, refl, sym, ap, ◌∙◌, subst, inl, inr}
 use Rattle.bow_units.specs.declared.sizes.Geometry.{Geometry}
 use Rattle.bow_units.specs.declared.requests.Phase.{Phase}
 use Rattle.bow_units.specs.declared.requests.Phase.TheVariants.{Trim, Arming, Checkpoint, Deciding, Committed}
@@ -7,8 +7,8 @@ use Rattle.bow_log.specs.Generations.{Generation}
 use Rattle.bow_chain.specs.Contents.{Contents, with_block}
 use Rattle.bow_chain.specs.Places.{pass, base}
 use Rattle.bow_chain.specs.Sound.{log_in, StandsBehind}
-use Rattle.bow_chain.specs.Counting.{AtSums, AtLogs}
-use Rattle.bow_chain.proofs.Counting.{entries_map, places_map, some_inj, same_chain}
+use Rattle.bow_chain.specs.Counting.{AtPlaces}
+use Rattle.bow_chain.proofs.Counting.{at_places_map, entries_map, places_map, some_inj, same_chain}
 use Rattle.bow_flat.specs.Flat.{Flat}
 use Rattle.bow_guard.specs.Cuts.{Candidates}
 use Rattle.bow_guard.specs.Device.{Device, Firm, Steady, Safe}
@@ -17,15 +17,13 @@ use Rattle.bow_guard.proofs.Device.{steady_safe, not_0}
 use Rattle.bow_guard.proofs.Kept.{same_keeps}
 use Rattle.bow_ranges.specs.Kinds.{holds}
 use Rattle.bow_machine.specs.Memory.{Memory, reserved}
-use Rattle.bow_machine.specs.Tasks.{Task, Waits, Answers, WritesBlock, ReadsBlock, FlushesFor, DiscardsFor, Acts, task_of, spelling}
-use Rattle.bow_machine.specs.Steps.{call_of, step_of}
+use Rattle.bow_machine.specs.Tasks.{Task, Waits, Answers, WritesBlock, ReadsBlock, FlushesFor, DiscardsFor, Acts, spelling}
 use Rattle.bow_machine.specs.Ready.{is_idle}
-use Rattle.bow_machine.specs.Standing.{device_of, IsKept, Kept, IsStanding}
-use Rattle.bow_machine.specs.Consequences.{RoomIsExact, NoneIsPicked, LiveKeeps, StepCuts, IdleChangesNothing}
+use Rattle.bow_machine.proofs.Held.{device_of, IsKept, Kept, IsHeld}
+use Rattle.bow_machine.specs.Consequences.{TrimmedIsKept, NoneIsPicked, LiveKeeps}
 use Rattle.bow_machine.proofs.Spelled.{spelled}
 use Rattle.bow_machine.proofs.Cuts.{machine_cut}
-use Rattle.bow_machine.proofs.ReadyTable.{ready_is_table}
-use Rattle.bow_machine.proofs.Whole.{step_keeps}
+use Rattle.bow_machine.proofs.Joined.{held}
 
 -- with a log in memory, what is kept behind it
 pub kept_log : (g : Geometry) (m : Memory) (now : Contents) (may : Candidates) (f : Flat) (phase : Phase) (log : Generation) → Kept g m now may f phase (Some log) → IsKept g m now may f phase log
@@ -36,26 +34,22 @@ kept_log g m now may f Deciding log k = k
 kept_log g m now may f Committed log k = absurd k
 
 -- the same of a machine that stands
-pub standing_log : (g : Geometry) (m : Memory) (now : Contents) (may : Candidates) (f : Flat) (log : Generation) → m.log ≡ Some log → IsStanding g m now may f → IsKept g m now may f m.phase log
+pub standing_log : (g : Geometry) (m : Memory) (now : Contents) (may : Candidates) (f : Flat) (log : Generation) → m.log ≡ Some log → IsHeld g m now may f → IsKept g m now may f m.phase log
 standing_log g m now may f log some s = kept_log g m now may f m.phase log (subst (λ l. Kept g m now may f m.phase l) some s.kept)
 
-pub standing_in : (g : Geometry) (m : Memory) (now : Contents) (may : Candidates) (f : Flat) (log : Generation) (phase : Phase) → m.phase ≡ phase → m.log ≡ Some log → IsStanding g m now may f → IsKept g m now may f phase log
+pub standing_in : (g : Geometry) (m : Memory) (now : Contents) (may : Candidates) (f : Flat) (log : Generation) (phase : Phase) → m.phase ≡ phase → m.log ≡ Some log → IsHeld g m now may f → IsKept g m now may f phase log
 standing_in g m now may f log phase is some s = subst (λ p. IsKept g m now may f p log) is (standing_log g m now may f log some s)
 
-pub room_is_exact : RoomIsExact
-room_is_exact g m now may f log s some = let k = standing_log g m now may f log some s in (omega (arith, k.room), k.trimmed)
+pub trimmed_is_kept : TrimmedIsKept
+trimmed_is_kept g m now may f log s some = (standing_log g m now may f log some (held g m now may f s)).trimmed
 
 -- ----------------------------------------------------------------------------------------------------------------
 -- What is picked.
 
 -- behind a log at firm places, nothing is picked
 none_of : (g : Geometry) (used : ℕ → Bool) (saved : Contents) (d : Device) (P : ℕ → Type 0) (l log : Generation) (ls older : List Generation) → ((x : ℕ) → P x → Firm g d x) → l ≡ log → KeptBehind g P used saved d.now l ls → StandsBehind g d.now log older
-    → AtSums (λ x. d.picked x ≡ false) (λ x. x) log.entries × AtLogs (λ x. d.picked x ≡ false) (pass log.entries) older × ((x : ℕ) → x < g.blocks → used x ≡ true → d.picked (base (log ∷ older) x) ≡ false)
-none_of g used saved d P l log ls older firm is kept behind = (
-  entries_map P (λ x. d.picked x ≡ false) (λ x. x) (λ x. x) free log.entries k.at_sums,
-  places_map P (λ x. d.picked x ≡ false) (λ x. x) (λ x. x) (pass log.entries) free older k.at_logs,
-  λ x on u. free _ (k.at_used x on u),
-)
+    → AtPlaces g used (λ x. d.picked x ≡ false) log older
+none_of g used saved d P l log ls older firm is kept behind = at_places_map g used P (λ x. d.picked x ≡ false) log older free k.places
   where
     free : (x : ℕ) → P x → d.picked x ≡ false
     free x p = (firm x p).not_picked
@@ -71,11 +65,10 @@ none_of g used saved d P l log ls older firm is kept behind = (
 
 -- no place that counts for these logs is picked
 abbrev IsFree : Geometry → Memory → Flat → Generation → List Generation → Type 0
-IsFree g m f log older = AtSums (λ x. holds (reserved m.hand) x ≡ false) (λ x. x) log.entries × AtLogs (λ x. holds (reserved m.hand) x ≡ false) (pass log.entries) older
-    × ((x : ℕ) → x < g.blocks → f.used x ≡ true → holds (reserved m.hand) (base (log ∷ older) x) ≡ false)
+IsFree g m f log older = AtPlaces g f.used (λ x. holds (reserved m.hand) x ≡ false) log older
 
 pub none_is_picked : NoneIsPicked
-none_is_picked g m now may f v log older s is has spells behind = go m.log refl (subst (λ p. Kept g m now may f p m.log) is s.kept)
+none_is_picked g m now may f v log older s is has spells behind = go m.log refl (subst (λ p. Kept g m now may f p m.log) is (held g m now may f s).kept)
   where
     go : (o : Option Generation) → m.log ≡ o → Kept g m now may f Checkpoint o → IsFree g m f log older
     go None none k = absurd k
@@ -100,7 +93,7 @@ block_other image b v x ne = grind arith
 
 pub live_keeps : LiveKeeps
 live_keeps g m now may f log s is some =
-    let k : IsKept g m now may f Checkpoint log = standing_in g m now may f log Checkpoint is some s in
+    let k : IsKept g m now may f Checkpoint log = standing_in g m now may f log Checkpoint is some (held g m now may f s) in
     let d = device_of m log k.older k.clean_log k.clean_older now may in
     let guarded : Guarded g f.used f.saved d = k.leaves in
     let other : Contents = with_block now 0 (spelling g log) in
@@ -108,20 +101,11 @@ live_keeps g m now may f log s is some =
     record {
       log = log;
       older = k.older;
-      sound = record { spelled = ap (log_in g) (block_there now 0 (spelling g log)) ∙ spelled g log s.sizes guarded.log.behind.valid k.fits; behind = kept.behind };
+      sound = record { spelled = ap (log_in g) (block_there now 0 (spelling g log)) ∙ spelled g log s.sound.sizes guarded.log.behind.valid k.fits; behind = kept.behind };
       kept = kept.kept;
     }
 
--- ----------------------------------------------------------------------------------------------------------------
--- Steps.
-
-pub step_cuts : StepCuts
-step_cuts g m turn reply now new_now may new_may f image s does = (
-  λ cut. machine_cut g m now may f image s cut,
-  λ cut. machine_cut g _ new_now new_may _ image (step_keeps g m turn reply now new_now may new_may f s does).1 cut,
-)
-
-idle_waits : (task : Task) → is_idle task ≡ true → task ≡ Waits
+pub idle_waits : (task : Task) → is_idle task ≡ true → task ≡ Waits
 idle_waits Waits is = refl
 idle_waits (Answers r outcome) is = absurd (grind arith)
 idle_waits (WritesBlock r b) is = absurd (grind arith)
@@ -129,8 +113,3 @@ idle_waits (ReadsBlock r b) is = absurd (grind arith)
 idle_waits (FlushesFor r) is = absurd (grind arith)
 idle_waits (DiscardsFor r) is = absurd (grind arith)
 idle_waits (Acts taken) is = absurd (grind arith)
-
-pub idle_changes_nothing : IdleChangesNothing
-idle_changes_nothing g m turn reply now may f s unready =
-    let waits = idle_waits (task_of g m turn) (ready_is_table g m turn now may f s ∙ ap not unready) in
-    (ap (call_of g m) waits, ap (λ task. step_of g now m task reply) waits)

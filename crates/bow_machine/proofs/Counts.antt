@@ -8,7 +8,8 @@ use Rattle.bow_flat.specs.Flat.{count_from, count_below}
 use Rattle.bow_ranges.specs.Kinds.{is_free, kind_at, count_of, with_kind}
 use Rattle.bow_ranges.proofs.RunReads.{count-append}
 use Rattle.bow_machine.specs.Steps.{one_block}
-use Rattle.bow_machine.specs.Standing.{IsTable, IsTrimmed, is_touched}
+use Rattle.bow_machine.specs.MemoryIsSound.{IsTable, is_touched}
+use Rattle.bow_machine.proofs.Held.{IsTrimmed}
 use Rattle.bow_machine.proofs.Tables.{length_with, kind_one, kind_other, count_one}
 
 count_same : (trim : ℕ → Bool) (table : List Kind) (first : ℕ) → ((i : ℕ) → i < length table → trim (first + i) ≡ is_free (kind_at table i)) → count_from trim first (length table) ≡ count_of is_free table

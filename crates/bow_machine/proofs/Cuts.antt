@@ -12,8 +12,9 @@ use Rattle.bow_guard.specs.Phases.{Leaves}
 use Rattle.bow_guard.proofs.Phases.{cut_stands}
 use Rattle.bow_machine.specs.Memory.{Memory}
 use Rattle.bow_machine.specs.Steps.{log_or_blank}
-use Rattle.bow_machine.specs.Standing.{device_of, Kept}
+use Rattle.bow_machine.proofs.Held.{device_of, Kept}
 use Rattle.bow_machine.specs.Laws.{CutStands}
+use Rattle.bow_machine.proofs.Joined.{held}
 
 -- a device whose candidates are these, and in a phase with a log the one that it is kept behind, leaves what it should
 record LeftBy (g : Geometry) (may : Candidates) (f : Flat) (phase : Phase) : Type 0 where
@@ -37,5 +38,6 @@ left_by g m now may f Committed (Some log) k = absurd k
 
 pub machine_cut : CutStands
 machine_cut g m now may f image s cut =
-    let left = left_by g m now may f m.phase m.log s.kept in
-    cut_stands g f left.device image left.content (omega (arith, (s.sizes).enough)) s.state (subst (λ p. Leaves g p f left.content left.device) (sym s.phases) left.leaves) (subst (λ c. IsCut g c image) (sym left.same) cut)
+    let h = held g m now may f s in
+    let left = left_by g m now may f m.phase m.log h.kept in
+    cut_stands g f left.device image left.content (omega (arith, (h.sizes).enough)) s.state (subst (λ p. Leaves g p f left.content left.device) (sym s.phases) left.leaves) (subst (λ c. IsCut g c image) (sym left.same) cut)

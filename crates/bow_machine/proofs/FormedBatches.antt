@@ -17,7 +17,7 @@ use Rattle.bow_machine.specs.Requests.{Request}
 use Rattle.bow_machine.specs.Memory.{Memory, Empty, Batching, picks, is_kind_current, may_be_written}
 use Rattle.bow_machine.specs.Calls.{Reply}
 use Rattle.bow_machine.specs.Tasks.{Task, Acts, batch_for, with_batch, is_source, alike_from, copied_from, copy_onto, spelling, formed}
-use Rattle.bow_machine.specs.Standing.{JobHeld, IsStanding}
+use Rattle.bow_machine.proofs.Held.{JobHeld, IsHeld}
 use Rattle.bow_machine.proofs.Tables.{kind_in}
 use Rattle.bow_machine.proofs.BatchStands.{working, Working, to_standing, rehanded, took}
 use Rattle.bow_machine.proofs.BatchSteps.{batching, at_work, reserves, held_before}
@@ -27,13 +27,13 @@ use Rattle.bow_machine.proofs.FormedHeads.{IsHead, for_head, IsFreeRun, free_run
 -- ----------------------------------------------------------------------------------------------------------------
 -- The blocks that a copy backs up.
 
-source_kind : (k other : Kind) → is_source k other ≡ true → (other ≡ Unchanged) ⊎ (other ≡ Backup)
+pub source_kind : (k other : Kind) → is_source k other ≡ true → (other ≡ Unchanged) ⊎ (other ≡ Backup)
 source_kind k other is = grind arith
 
-is_one : (k : Kind) → (k ≡ Unchanged) ⊎ (k ≡ Backup) → is_source k k ≡ true
+pub is_one : (k : Kind) → (k ≡ Unchanged) ⊎ (k ≡ Backup) → is_source k k ≡ true
 is_one k h = grind arith
 
-kept_kinds : (k : Kind) → may_be_written k ≡ false → k ≢ Sector0 → is_kind_current k ≡ false → k ≢ Saved
+pub kept_kinds : (k : Kind) → may_be_written k ≡ false → k ≢ Sector0 → is_kind_current k ≡ false → k ≢ Saved
     → (k ≡ Unchanged) ⊎ (k ≡ Backup)
 kept_kinds Sector0 held zeroth current saved = absurd (zeroth refl)
 kept_kinds Current held zeroth current saved = absurd (false≢true (sym current))
@@ -43,10 +43,10 @@ kept_kinds Changed held zeroth current saved = absurd (false≢true (sym held))
 kept_kinds Backup held zeroth current saved = inr refl
 kept_kinds Saved held zeroth current saved = absurd (saved refl)
 
-current_kind : (k : Kind) → is_kind_current k ≡ true → k ≡ Current
+pub current_kind : (k : Kind) → is_kind_current k ≡ true → k ≡ Current
 current_kind k is = grind arith
 
-alike_most : (table : List Kind) (kind : Kind) (first most : ℕ) → alike_from table kind first most ≤ most
+pub alike_most : (table : List Kind) (kind : Kind) (first most : ℕ) → alike_from table kind first most ≤ most
 alike_most table kind first zero = omega arith
 alike_most table kind first (suc most) =
     go (is_source kind (kind_at table first)) (alike_most table kind (suc first) most)
@@ -56,12 +56,12 @@ alike_most table kind first (suc most) =
     go true rest = omega arith
     go false rest = omega arith
 
-alike_some : (table : List Kind) (kind : Kind) (first most : ℕ) → 1 ≤ most → is_source kind (kind_at table first) ≡ true
+pub alike_some : (table : List Kind) (kind : Kind) (first most : ℕ) → 1 ≤ most → is_source kind (kind_at table first) ≡ true
     → 1 ≤ alike_from table kind first most
 alike_some table kind first zero some is = absurd (omega arith)
 alike_some table kind first (suc most) some is = rw is (omega arith)
 
-alike_at : (table : List Kind) (kind : Kind) (most first j : ℕ) → j < alike_from table kind first most
+pub alike_at : (table : List Kind) (kind : Kind) (most first j : ℕ) → j < alike_from table kind first most
     → is_source kind (kind_at table (first + j)) ≡ true
 alike_at table kind zero first j below = absurd (omega arith)
 alike_at table kind (suc most) first j below =
@@ -76,7 +76,7 @@ alike_at table kind (suc most) first j below =
     go false is rest j below = absurd (omega arith)
 
 -- two runs, one of free blocks and one of others
-runs_apart : (kinds : List Kind) (s d n : ℕ) → ((j : ℕ) → j < n → kind_at kinds (s + j) ≢ Free)
+pub runs_apart : (kinds : List Kind) (s d n : ℕ) → ((j : ℕ) → j < n → kind_at kinds (s + j) ≢ Free)
     → ((j : ℕ) → j < n → kind_at kinds (d + j) ≡ Free) → (s + n ≤ d) ⊎ (d + n ≤ s)
 runs_apart kinds s d n used free = elim (cases_lt s d) [
   | inl below ↦ elim (cases_lt d (s + n)) [
@@ -89,7 +89,7 @@ runs_apart kinds s d n used free = elim (cases_lt s d) [
   ]
 ]
 
-source_not_free : (k : Kind) → (k ≡ Unchanged) ⊎ (k ≡ Backup) → k ≢ Free
+pub source_not_free : (k : Kind) → (k ≡ Unchanged) ⊎ (k ≡ Backup) → k ≢ Free
 source_not_free k h is = grind arith
 
 module _ (g : Geometry) (m : Memory) (log : Generation) (f : Flat) (now : Contents) (may : Candidates) (r : Request)
@@ -100,7 +100,7 @@ module _ (g : Geometry) (m : Memory) (log : Generation) (f : Flat) (now : Conten
   -- a job for which picked blocks are taken, and what is in hand then
   took_for : (job : Job) (slots : List (List ℕ)) (d : Extent) → IsFreeRun g m.kinds d → picks job ≡ d
       → JobHeld g (at_work (record m { kinds = with_kind m.kinds d Backup }) job 0 slots r.ticket log) log job 0 slots now may
-      → IsStanding g (working (record m { kinds = with_kind m.kinds d Backup }) (Batching (batch_for r job slots)) log) now may f
+      → IsHeld g (working (record m { kinds = with_kind m.kinds d Backup }) (Batching (batch_for r job slots)) log) now may f
   took_for job slots d run is held =
       let n : Memory = record m { kinds = with_kind m.kinds d Backup } in
       to_standing g n (batching job 0 slots r.ticket) log now may f
@@ -121,7 +121,7 @@ module _ (g : Geometry) (m : Memory) (log : Generation) (f : Flat) (now : Conten
       kind_in m.kinds d Backup d.first (omega (arith, run.inside, w.table.size)) (omega arith) (omega (arith, run.some))
 
   move_formed : m.clean ≡ true → is_kind_current (kind_at m.kinds next) ≡ true → (d : Extent) → IsPicked m.kinds 1 d
-      → IsStanding g (working (record m { kinds = with_kind m.kinds d Backup }) (Batching (batch_for r (Move next d.first) [])) log) now may f
+      → IsHeld g (working (record m { kinds = with_kind m.kinds d Backup }) (Batching (batch_for r (Move next d.first) [])) log) now may f
   move_formed clean is d picked =
       let run = free_run g m.kinds 1 d w.table.size picked in
       took_for (Move next d.first) [] d run (one_picked d picked) (
@@ -138,7 +138,7 @@ module _ (g : Geometry) (m : Memory) (log : Generation) (f : Flat) (now : Conten
       )
 
   link_formed : m.clean ≡ true → length log.entries ≡ room g.block_size → (d : Extent) → IsPicked m.kinds 1 d
-      → IsStanding g (working (record m { kinds = with_kind m.kinds d Backup }) (Batching (batch_for r (Link d.first) (spelling g log ∷ []))) log) now may f
+      → IsHeld g (working (record m { kinds = with_kind m.kinds d Backup }) (Batching (batch_for r (Link d.first) (spelling g log ∷ []))) log) now may f
   link_formed clean full d picked =
       let run = free_run g m.kinds 1 d w.table.size picked in
       took_for (Link d.first) (spelling g log ∷ []) d run (one_picked d picked)
@@ -162,7 +162,7 @@ module _ (g : Geometry) (m : Memory) (log : Generation) (f : Flat) (now : Conten
 
   copy_formed : m.clean ≡ true → (length log.entries ≡ room g.block_size → ⊥) → (d : Extent)
       → IsPicked m.kinds copied.count d
-      → IsStanding g (working (record m { kinds = with_kind m.kinds d Backup }) (Batching (batch_for r (copy_onto copied d) [])) log) now may f
+      → IsHeld g (working (record m { kinds = with_kind m.kinds d Backup }) (Batching (batch_for r (copy_onto copied d) [])) log) now may f
   copy_formed clean not_full d picked =
       took_for (copy_onto copied d) [] d run refl (
         record {

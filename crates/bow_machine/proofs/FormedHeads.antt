@@ -24,7 +24,8 @@ use Rattle.bow_machine.specs.Memory.{Memory, Batch, Hand, Empty, Batching, may_b
 use Rattle.bow_machine.specs.Calls.{Reply, DoesIt}
 use Rattle.bow_machine.specs.Tasks.{Task, needs_worker, head, on_picked}
 use Rattle.bow_machine.specs.Steps.{call_of, step_of, answered}
-use Rattle.bow_machine.specs.Standing.{OwnTickets, ForWrite, IsStanding}
+use Rattle.bow_machine.specs.MemoryIsSound.{ForWrite}
+use Rattle.bow_machine.proofs.Held.{OwnTickets, IsHeld}
 use Rattle.bow_machine.proofs.RequestLists.{find_passes}
 use Rattle.bow_machine.proofs.Tickets.{found_own}
 use Rattle.bow_machine.proofs.Tables.{holds_cases, kind_out}
@@ -141,7 +142,7 @@ module _ (g : Geometry) (m : Memory) (log : Generation) (f : Flat) (now new_now 
   TaskKeeps task = DoesIt g (call_of g (working m Empty log) task) reply now may new_now new_may → Keeps g new_now new_may f (step_of g now (working m Empty log) task reply)
 
   pub on_picked_keeps : (r : Request) (batch : Extent → Batch) (want : ℕ) → 1 ≤ want → Working g m Empty log now may f
-      → ((e : Extent) → IsPicked m.kinds want e → IsStanding g (working (record m { kinds = with_kind m.kinds e Backup }) (Batching (batch e)) log) now may f)
+      → ((e : Extent) → IsPicked m.kinds want e → IsHeld g (working (record m { kinds = with_kind m.kinds e Backup }) (Batching (batch e)) log) now may f)
       → TaskKeeps (on_picked (working m Empty log) r batch (picked m.kinds want))
   on_picked_keeps r batch want some w stands = go (picked m.kinds want) (picked_is m.kinds want some)
     where

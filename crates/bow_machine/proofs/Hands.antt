@@ -17,7 +17,8 @@ use Rattle.bow_queue.specs.declared.tickets.Ticket.{Ticket}
 use Rattle.bow_machine.specs.Requests.{Request, request_of, without_request}
 use Rattle.bow_machine.specs.Memory.{Memory, Hand, Empty, reserved}
 use Rattle.bow_machine.specs.Steps.{Step, moved, answered_for, without_waiting}
-use Rattle.bow_machine.specs.Standing.{device_of, IsRequest, OwnTickets, is_touched, IsKept, Kept, ForCommand, HandHeld, IsStanding}
+use Rattle.bow_machine.specs.MemoryIsSound.{IsRequest, is_touched}
+use Rattle.bow_machine.proofs.Held.{device_of, OwnTickets, IsKept, Kept, ForCommand, HandHeld, IsHeld}
 use Rattle.bow_machine.specs.Laws.{after_all, AllowsAll}
 use Rattle.bow_machine.proofs.RequestLists.{each_without}
 use Rattle.bow_machine.proofs.Tickets.{own_without}
@@ -65,7 +66,7 @@ module _ (g : Geometry) (now : Contents) (may : Candidates) (f : Flat) (m : Memo
   kept_handed Committed None k = k
   kept_handed Committed (Some log) k = absurd k
 
-  pub stands_handed : Each IsRequest requests → OwnTickets requests → HandHeld g (handed m requests hand) hand now may m.log → IsStanding g m now may f → IsStanding g (handed m requests hand) now may f
+  pub stands_handed : Each IsRequest requests → OwnTickets requests → HandHeld g (handed m requests hand) hand now may m.log → IsHeld g m now may f → IsHeld g (handed m requests hand) now may f
   stands_handed each own held k = record {
     sizes = k.sizes;
     state = k.state;
@@ -81,31 +82,31 @@ module _ (g : Geometry) (now : Contents) (may : Candidates) (f : Flat) (m : Memo
 
 module _ (g : Geometry) (now : Contents) (may : Candidates) (f : Flat) (m : Memory) where
   -- something else in hand
-  pub rehanded : (hand : Hand) → reserved hand ≡ reserved m.hand → HandHeld g (record m { hand = hand }) hand now may m.log → IsStanding g m now may f → IsStanding g (record m { hand = hand }) now may f
+  pub rehanded : (hand : Hand) → reserved hand ≡ reserved m.hand → HandHeld g (record m { hand = hand }) hand now may m.log → IsHeld g m now may f → IsHeld g (record m { hand = hand }) now may f
   rehanded hand same held k = stands_handed g now may f m m.requests hand same k.requests k.tickets held k
 
   -- with nothing in hand, a request is answered
-  pub answered_stands : (t : Ticket) → IsStanding g (emptied m) now may f → IsStanding g (without_waiting (emptied m) t) now may f
+  pub answered_stands : (t : Ticket) → IsHeld g (emptied m) now may f → IsHeld g (without_waiting (emptied m) t) now may f
   answered_stands t k = stands_handed g now may f (emptied m) (without_request t m.requests) Empty refl (each_without t m.requests k.requests) (own_without t m.requests k.tickets) tt k
 
 -- the disk holds the same
-pub same_disk : (g : Geometry) (m : Memory) (f : Flat) (now new_now : Contents) (may new_may : Candidates) → new_now ≡ now → new_may ≡ may → IsStanding g m now may f → IsStanding g m new_now new_may f
-same_disk g m f now new_now may new_may same_now same_may k = subst (λ i. IsStanding g m i new_may f) (sym same_now) (subst (λ j. IsStanding g m now j f) (sym same_may) k)
+pub same_disk : (g : Geometry) (m : Memory) (f : Flat) (now new_now : Contents) (may new_may : Candidates) → new_now ≡ now → new_may ≡ may → IsHeld g m now may f → IsHeld g m new_now new_may f
+same_disk g m f now new_now may new_may same_now same_may k = subst (λ i. IsHeld g m i new_may f) (sym same_now) (subst (λ j. IsHeld g m now j f) (sym same_may) k)
 
 -- ----------------------------------------------------------------------------------------------------------------
 -- Steps.
 
 -- the events of a step may be, and the memory after it stands for the state after them
 abbrev pub Keeps : Geometry → Contents → Candidates → Flat → Step → Type 0
-Keeps g now may f step = AllowsAll g.blocks step.events f × IsStanding g step.memory now may (after_all g.blocks step.events f)
+Keeps g now may f step = AllowsAll g.blocks step.events f × IsHeld g step.memory now may (after_all g.blocks step.events f)
 
 -- an act that goes on, with no event
-pub goes_on : (g : Geometry) (m : Memory) (now : Contents) (may : Candidates) (f : Flat) (happens : List Event) → happens ≡ [] → IsStanding g m now may f → Keeps g now may f (moved m happens)
+pub goes_on : (g : Geometry) (m : Memory) (now : Contents) (may : Candidates) (f : Flat) (happens : List Event) → happens ≡ [] → IsHeld g m now may f → Keeps g now may f (moved m happens)
 goes_on g m now may f happens none k = subst (λ es. Keeps g now may f (moved m es)) (sym none) (tt, k)
 
 -- an act that ends what was in hand: the command's request is answered
 pub ends : (g : Geometry) (m : Memory) (now : Contents) (may : Candidates) (f : Flat) (t : Ticket) (outcome : Request → Outcome) (happens : List Event) → ForCommand m.requests t → AllowsAll g.blocks happens f
-    → IsStanding g (emptied m) now may (after_all g.blocks happens f) → Keeps g now may f (answered_for (emptied m) (request_of t m.requests) outcome (λ r. happens))
+    → IsHeld g (emptied m) now may (after_all g.blocks happens f) → Keeps g now may f (answered_for (emptied m) (request_of t m.requests) outcome (λ r. happens))
 ends g m now may f t outcome happens waits allowed k = subst (λ o. Keeps g now may f (answered_for (emptied m) o outcome (λ r. happens))) (sym waits.waits) (allowed, answered_stands g now may (after_all g.blocks happens f) m waits.command.ticket k)
 
 -- ----------------------------------------------------------------------------------------------------------------

@@ -19,7 +19,8 @@ use Rattle.bow_ranges.specs.Kinds.{kind_at}
 use Rattle.bow_machine.specs.Requests.{Request, request_of, without_request, with_request, refusal}
 use Rattle.bow_machine.specs.Memory.{Memory, Batch, Hand, Empty, Batching, Preparing, Committing, PrepareAct, ReadsBlock0, WritesCurrent, WritesBackup, FlushesCopies, WritesFirstLog, FlushesFirstLog, CommitAct, FlushesAll, ReadsCurrent, WritesBlock0, FlushesDecision, has_command, has_move, is_move, may_be_written}
 use Rattle.bow_machine.specs.Steps.{without_waiting}
-use Rattle.bow_machine.specs.Standing.{IsRequest, device_of, IsKept, Kept, IsHidden, Room, ForWrite, JobHeld, BatchHeld, PicksHeld, PrepareHeld, CommitHeld, ForCommand, OwnTickets, HandHeld, IsStanding}
+use Rattle.bow_machine.specs.MemoryIsSound.{IsRequest, ForWrite, PicksHeld}
+use Rattle.bow_machine.proofs.Held.{device_of, IsKept, Kept, IsHidden, Room, JobHeld, BatchHeld, PrepareHeld, CommitHeld, ForCommand, OwnTickets, HandHeld, IsHeld}
 use Rattle.bow_machine.proofs.RequestLists.{of_without, of_with_other, of_push_found, each_without, each_with, each_append}
 use Rattle.bow_machine.proofs.Tickets.{own_without, own_with, own_push, command_without, command_with, command_push}
 
@@ -145,8 +146,8 @@ module _ (g : Geometry) (m : Memory) (requests : List Request) (now : Contents) 
   hand_so (Committing t again act) log waits h = (commit_so again act h.0, waits h.1)
 
   -- The requests change, and that of what is in hand still waits.
-  pub standing_requests : (f : Flat) → Each IsRequest requests → OwnTickets requests → StillWaits m.hand → IsStanding g m now may f
-      → IsStanding g (with_requests m requests) now may f
+  pub standing_requests : (f : Flat) → Each IsRequest requests → OwnTickets requests → StillWaits m.hand → IsHeld g m now may f
+      → IsHeld g (with_requests m requests) now may f
   standing_requests f each own waits s = record {
     sizes = s.sizes;
     state = s.state;
@@ -162,7 +163,7 @@ module _ (g : Geometry) (m : Memory) (requests : List Request) (now : Contents) 
 
 -- A request for which nothing is in hand is answered.
 pub standing_without : (g : Geometry) (m : Memory) (t : Ticket) (now : Contents) (may : Candidates) (f : Flat) → NotInHand m.hand t
-    → IsStanding g m now may f → IsStanding g (without_waiting m t) now may f
+    → IsHeld g m now may f → IsHeld g (without_waiting m t) now may f
 standing_without g m t now may f other s = standing_requests g m (without_request t m.requests) now may f (each_without t m.requests s.requests) (own_without t m.requests s.tickets) (still m.hand other) s
   where
     still : (hand : Hand) → NotInHand hand t → StillWaits g m (without_request t m.requests) now may hand
@@ -173,7 +174,7 @@ standing_without g m t now may f other s = standing_requests g m (without_reques
 
 -- A request for which nothing is in hand goes on.
 pub standing_with : (g : Geometry) (m : Memory) (r : Request) (now : Contents) (may : Candidates) (f : Flat) → NotInHand m.hand r.ticket → IsRequest r
-    → IsStanding g m now may f → IsStanding g (with_requests m (with_request r m.requests)) now may f
+    → IsHeld g m now may f → IsHeld g (with_requests m (with_request r m.requests)) now may f
 standing_with g m r now may f other one s = standing_requests g m (with_request r m.requests) now may f (each_with r m.requests one s.requests) (own_with r m.requests s.tickets) (still m.hand other) s
   where
     still : (hand : Hand) → NotInHand hand r.ticket → StillWaits g m (with_request r m.requests) now may hand
@@ -184,7 +185,7 @@ standing_with g m r now may f other one s = standing_requests g m (with_request 
 
 -- A request of a new ticket is taken in.
 pub standing_push : (g : Geometry) (m : Memory) (r : Request) (now : Contents) (may : Candidates) (f : Flat) → request_of r.ticket m.requests ≡ None
-    → IsRequest r → IsStanding g m now may f → IsStanding g (with_requests m (m.requests ++ r ∷ [])) now may f
+    → IsRequest r → IsHeld g m now may f → IsHeld g (with_requests m (m.requests ++ r ∷ [])) now may f
 standing_push g m r now may f new one s = standing_requests g m (m.requests ++ r ∷ []) now may f (each_append IsRequest m.requests (r ∷ []) s.requests (one, tt)) (own_push r m.requests new s.tickets) (still m.hand) s
   where
     still : (hand : Hand) → StillWaits g m (m.requests ++ r ∷ []) now may hand
@@ -207,7 +208,7 @@ OpenChange g old new = (x : ℕ) → x < g.blocks → (kind_at new x ≡ kind_at
 pub open_change_same : (g : Geometry) (table : List Kind) → OpenChange g table table
 open_change_same g table x on = inl refl
 
-not_open : (k : Kind) → may_be_written k ≡ false → IsOpen k → ⊥
+pub not_open : (k : Kind) → may_be_written k ≡ false → IsOpen k → ⊥
 not_open Changed h is = absurd (grind arith)
 not_open Free h is = absurd (grind arith)
 not_open Sector0 h is = grind arith

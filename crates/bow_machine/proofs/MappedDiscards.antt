@@ -19,10 +19,10 @@ use Rattle.bow_guard.proofs.PhaseActs.{pending_discarded}
 use Rattle.bow_queue.specs.Requests.{open_writes}
 use Rattle.bow_ranges.specs.Kinds.{kind_at, holds, reclaimed, is_free, count_of}
 use Rattle.bow_machine.proofs.Known.{may_dropped}
-use Rattle.bow_machine.specs.Requests.{waiting_of}
 use Rattle.bow_machine.specs.Memory.{Memory, has_command, place_of}
 use Rattle.bow_machine.specs.Steps.{above_0, kinds_discarded}
-use Rattle.bow_machine.specs.Standing.{device_of, IsTable, IsTrimmed, is_touched, IsKept, Kept, IsHidden, Room, HandHeld, IsStanding}
+use Rattle.bow_machine.specs.MemoryIsSound.{IsTable, is_touched}
+use Rattle.bow_machine.proofs.Held.{device_of, IsTrimmed, IsKept, Kept, IsHidden, Room, HandHeld, IsHeld}
 use Rattle.bow_machine.proofs.Tables.{kind_with, kind_freed, free_and_touched_freed, table_with, table_freed}
 use Rattle.bow_machine.proofs.Mapped.{OpenChange, kept_open, hand_open, hand_empty}
 use Rattle.bow_machine.proofs.MappedTests.{for_inside}
@@ -36,7 +36,7 @@ dropped true c is = refl
 dropped false c is = absurd (grind arith)
 
 -- the extent without block 0
-above_cases : (e : Extent) → ((e.first ≡ 0) × (above_0 e ≡ record { first = 1; count = e.count - 1 })) ⊎ ((e.first ≢ 0) × (above_0 e ≡ e))
+pub above_cases : (e : Extent) → ((e.first ≡ 0) × (above_0 e ≡ record { first = 1; count = e.count - 1 })) ⊎ ((e.first ≢ 0) × (above_0 e ≡ e))
 above_cases e = elim (cases_eq e.first 0) [
   | inl z ↦ inl (z, let is : (e.first == 0) ≡ true = grind arith in rw is refl)
   | inr ne ↦ inr (ne, let is : (e.first == 0) ≡ false = grind arith in rw is refl)
@@ -45,7 +45,7 @@ above_cases e = elim (cases_eq e.first 0) [
 abbrev extent : ℕ → ℕ → Extent
 extent first count = record { first = first; count = count }
 
-above_fits : (g : Geometry) (e : Extent) → 8 ≤ g.blocks → e.first + e.count ≤ g.blocks
+pub above_fits : (g : Geometry) (e : Extent) → 8 ≤ g.blocks → e.first + e.count ≤ g.blocks
     → (0 < (above_0 e).first) × ((above_0 e).first + (above_0 e).count ≤ g.blocks)
 above_fits g e enough inside = elim (above_cases e) [
   | inl (z, is) ↦ subst (λ x. (0 < x.first) × (x.first + x.count ≤ g.blocks)) (sym is) (omega arith, omega (arith, z))
@@ -67,7 +67,7 @@ above_holds e b = elim (above_cases e) [
 positive : (x : ℕ) → x ≢ 0 → nat_lt 0 x ≡ true
 positive x ne = grind arith
 
-module _ (g : Geometry) (m : Memory) (now : Contents) (may : Candidates) (f : Flat) (s : IsStanding g m now may f) (e : Extent)
+module _ (g : Geometry) (m : Memory) (now : Contents) (may : Candidates) (f : Flat) (s : IsHeld g m now may f) (e : Extent)
     (inside : e.first + e.count ≤ g.blocks) (command : has_command m.hand ≡ false) (settled : (m.phase ≢ Arming) × (m.phase ≢ Deciding)) where
   abbrev new : List Kind
   new = kinds_discarded g m e m.phase
@@ -79,12 +79,12 @@ module _ (g : Geometry) (m : Memory) (now : Contents) (may : Candidates) (f : Fl
   flat_discarded = after g.blocks (Discards e) f
 
   abbrev but : List Extent
-  but = open_writes g.blocks (waiting_of m.requests)
+  but = open_writes g.blocks m.requests
 
   in_phase : (p : Phase) → m.phase ≡ p → new ≡ kinds_discarded g m e p
   in_phase p is = ap (kinds_discarded g m e) is
 
-  discard_standing : IsTable g new → Kept g n now may flat_discarded m.phase m.log → HandHeld g n m.hand now may m.log → IsStanding g n now may flat_discarded
+  discard_standing : IsTable g new → Kept g n now may flat_discarded m.phase m.log → HandHeld g n m.hand now may m.log → IsHeld g n now may flat_discarded
   discard_standing table kept hand = record {
     sizes = s.sizes;
     state = stays_valid g.blocks (Discards e) f s.state tt (λ is. settled.0 (sym s.phases ∙ is), λ is. settled.1 (sym s.phases ∙ is));
@@ -178,10 +178,10 @@ module _ (g : Geometry) (m : Memory) (now : Contents) (may : Candidates) (f : Fl
       hand_discarded : m.log ≡ Some log → HandHeld g n m.hand now may m.log
       hand_discarded some = subst (λ l. HandHeld g n m.hand now may l) (sym some) (hand_open g m n log now now may may change refl (record { copies = λ x on kind. refl; zeroth = refl; moved = λ moves. refl; durable = λ x on kind one. one }) k.current_inside m.hand refl command refl (λ h w at. (w.waits, for_inside g m h.ticket w)) (subst (λ l. HandHeld g m m.hand now may l) some s.in_hand))
 
-  pub standing_discarded : IsStanding g n now may flat_discarded
+  pub standing_discarded : IsHeld g n now may flat_discarded
   standing_discarded = go m.phase refl m.log refl s.kept
     where
-      go : (p : Phase) → m.phase ≡ p → (l : Option Generation) → m.log ≡ l → Kept g m now may f p l → IsStanding g n now may flat_discarded
+      go : (p : Phase) → m.phase ≡ p → (l : Option Generation) → m.log ≡ l → Kept g m now may f p l → IsHeld g n now may flat_discarded
       go Trim is None none k = discard_standing (table_trimmed is) (subst₂ (λ p l. Kept g n now may flat_discarded p l) (sym is) (sym none) (pending_discarded g f g.blocks e may k.0, trimmed_more is k.1)) (empty (λ e. absurd (let z : Trim ≡ Checkpoint = sym is ∙ e in grind arith)))
       go Trim is (Some log) some k = absurd k
       go Arming is l log k = absurd (settled.0 is)

@@ -17,12 +17,12 @@ use Rattle.bow_guard.proofs.Phases.{may_read}
 use Rattle.bow_guard.proofs.PhaseActs.{arming_read, deciding_read, pending_flushed}
 use Rattle.bow_machine.proofs.Known.{narrowed_none}
 use Rattle.bow_machine.specs.Memory.{Memory, has_command, place_of, place_with}
-use Rattle.bow_machine.specs.Standing.{device_of, IsKept, Kept, HandHeld, IsStanding}
+use Rattle.bow_machine.proofs.Held.{device_of, IsKept, Kept, HandHeld, IsHeld}
 use Rattle.bow_machine.proofs.Mapped.{open_change_same, kept_open, hand_open, hand_empty}
 use Rattle.bow_machine.proofs.MappedTests.{for_inside}
 use Rattle.bow_machine.proofs.MappedWrites.{not_0, put_here, put_there}
 
-module _ (g : Geometry) (m : Memory) (now : Contents) (may : Candidates) (f : Flat) (s : IsStanding g m now may f) where
+module _ (g : Geometry) (m : Memory) (now : Contents) (may : Candidates) (f : Flat) (s : IsHeld g m now may f) where
   -- A block of the device is read at its place.
   module _ (b : ℕ) (on : b < g.blocks) where
     abbrev seen : List ℕ
@@ -82,7 +82,7 @@ module _ (g : Geometry) (m : Memory) (now : Contents) (may : Candidates) (f : Fl
     kept_read Committed None is k = k
     kept_read Committed (Some log) is k = absurd k
 
-    pub standing_read : IsStanding g m now may flat_read
+    pub standing_read : IsHeld g m now may flat_read
     standing_read = record {
       sizes = s.sizes;
       state = stays_valid g.blocks (Reads b seen) f s.state (s.shown b on) tt;
@@ -105,7 +105,7 @@ module _ (g : Geometry) (m : Memory) (now : Contents) (may : Candidates) (f : Fl
     some : 0 < g.blocks
     some = omega (arith, (s.sizes).enough)
 
-    flush_standing : Kept g m now new_may flat_flushed m.phase m.log → HandHeld g m m.hand now new_may m.log → IsStanding g m now new_may flat_flushed
+    flush_standing : Kept g m now new_may flat_flushed m.phase m.log → HandHeld g m m.hand now new_may m.log → IsHeld g m now new_may flat_flushed
     flush_standing kept hand = record {
       sizes = s.sizes;
       state = stays_valid g.blocks Flushes f s.state tt tt;
@@ -133,10 +133,10 @@ module _ (g : Geometry) (m : Memory) (now : Contents) (may : Candidates) (f : Fl
     hand_flushed : (log : Generation) → m.log ≡ Some log → log.current < g.blocks → HandHeld g m m.hand now new_may m.log
     hand_flushed log is inside = subst (λ l. HandHeld g m m.hand now new_may l) (sym is) (hand_open g m m log now now may new_may (open_change_same g m.kinds) refl (record { copies = λ x on kind. refl; zeroth = refl; moved = λ moves. refl; durable = λ x on kind one. all x on }) inside m.hand refl command refl (λ h w at. (w.waits, for_inside g m h.ticket w)) (subst (λ l. HandHeld g m m.hand now may l) is s.in_hand))
 
-    pub standing_flushed : IsStanding g m now new_may flat_flushed
+    pub standing_flushed : IsHeld g m now new_may flat_flushed
     standing_flushed = go m.phase refl m.log refl s.kept
       where
-        go : (p : Phase) → m.phase ≡ p → (l : Option Generation) → m.log ≡ l → Kept g m now may f p l → IsStanding g m now new_may flat_flushed
+        go : (p : Phase) → m.phase ≡ p → (l : Option Generation) → m.log ≡ l → Kept g m now may f p l → IsHeld g m now new_may flat_flushed
         go Trim is None none k = flush_standing (subst₂ (λ p l. Kept g m now new_may flat_flushed p l) (sym is) (sym none) (pending none, k.1)) (empty (λ e. absurd (let n : Trim ≡ Checkpoint = sym is ∙ e in grind arith)))
         go Trim is (Some log) some k = absurd k
         go Arming is l log k = absurd (settled.0 is)

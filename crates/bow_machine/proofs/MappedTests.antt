@@ -18,12 +18,12 @@ use Rattle.bow_queue.specs.Extents.{is_on_device}
 use Rattle.bow_queue.specs.declared.tickets.Ticket.{Ticket}
 use Rattle.bow_machine.specs.Requests.{begins, has_magic, is_reserved, unsettled, refusal}
 use Rattle.bow_machine.specs.Memory.{Memory}
-use Rattle.bow_machine.specs.Standing.{ForWrite}
+use Rattle.bow_machine.specs.MemoryIsSound.{ForWrite}
 
 out_of_range : Some OutOfRange ≢ None
 out_of_range = λ e. grind arith
 
-on_device : (g : Geometry) (e : Extent) (t : Bool) → is_on_device g.blocks e ≡ t → (rest : Option Outcome) → cond t rest (Some OutOfRange) ≡ None
+pub on_device : (g : Geometry) (e : Extent) (t : Bool) → is_on_device g.blocks e ≡ t → (rest : Option Outcome) → cond t rest (Some OutOfRange) ≡ None
     → (e.first + e.count ≤ g.blocks) × (rest ≡ None)
 on_device g e true is rest h = (grind arith, h)
 on_device g e false is rest h = absurd (out_of_range h)

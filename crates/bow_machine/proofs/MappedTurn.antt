@@ -25,7 +25,8 @@ use Rattle.bow_machine.specs.Memory.{Memory, Batch, Hand, Empty, Batching, Prepa
 use Rattle.bow_machine.specs.Calls.{Reply, Failed, Succeeded, Gave, DoesIt}
 use Rattle.bow_machine.specs.Tasks.{Map, Task, Waits, Answers, WritesBlock, ReadsBlock, FlushesFor, DiscardsFor, unless_refused, unless_command, is_waiting, task_for, map_task, task_of}
 use Rattle.bow_machine.specs.Steps.{payload_of, extent_of, with_read, next_block, kinds_discarded, call_of, step_of}
-use Rattle.bow_machine.specs.Standing.{IsRequest, ForWrite, BatchHeld, HandHeld, IsStanding}
+use Rattle.bow_machine.specs.MemoryIsSound.{IsRequest, ForWrite}
+use Rattle.bow_machine.proofs.Held.{BatchHeld, HandHeld, IsHeld}
 use Rattle.bow_machine.specs.Laws.{after_all, AllowsAll}
 use Rattle.bow_machine.proofs.RequestLists.{found_ticket, found_request}
 use Rattle.bow_machine.proofs.Tickets.{no_command}
@@ -40,15 +41,15 @@ use Rattle.bow_machine.proofs.MappedDiscards.{standing_discarded}
 -- and the events may be.
 abbrev pub TaskKeeps : Geometry → Memory → Contents → Candidates → Flat → Task → Type 0
 TaskKeeps g m now may f task = (reply : Reply) (new_now : Contents) (new_may : Candidates) → DoesIt g (call_of g m task) reply now may new_now new_may
-    → AllowsAll g.blocks (step_of g now m task reply).events f × IsStanding g (step_of g now m task reply).memory new_now new_may (after_all g.blocks (step_of g now m task reply).events f)
+    → AllowsAll g.blocks (step_of g now m task reply).events f × IsHeld g (step_of g now m task reply).memory new_now new_may (after_all g.blocks (step_of g now m task reply).events f)
 
 -- A task that waits does nothing.
-pub waits_keep : (g : Geometry) (m : Memory) (now : Contents) (may : Candidates) (f : Flat) → IsStanding g m now may f → TaskKeeps g m now may f Waits
+pub waits_keep : (g : Geometry) (m : Memory) (now : Contents) (may : Candidates) (f : Flat) → IsHeld g m now may f → TaskKeeps g m now may f Waits
 waits_keep g m now may f s reply new_now new_may does = (tt, same_disk g m f now new_now may new_may does.0 does.1 s)
 
 -- A request for which no batch is in hand is answered.
 pub answers_keep : (g : Geometry) (m : Memory) (now : Contents) (may : Candidates) (f : Flat) (r : Request) (outcome : Outcome)
-    → NotInHand m.hand r.ticket → IsStanding g m now may f → TaskKeeps g m now may f (Answers r outcome)
+    → NotInHand m.hand r.ticket → IsHeld g m now may f → TaskKeeps g m now may f (Answers r outcome)
 answers_keep g m now may f r outcome other s reply new_now new_may does = (tt, standing_without g m r.ticket new_now new_may f other (same_disk g m f now new_now may new_may does.0 does.1 s))
 
 -- ----------------------------------------------------------------------------------------------------------------
@@ -63,16 +64,16 @@ batch_held g m hand b now may log is h = go log (subst (λ hand. HandHeld g m ha
     go (Some l) h = (l, h)
 
 -- less, where it is no more and not the same
-less : (n k : ℕ) → (n == k) ≡ false → n ≤ k → n < k
+pub less : (n k : ℕ) → (n == k) ≡ false → n ≤ k → n < k
 less n k ne le = grind arith
 
-some_request : (r w : Request) → Some r ≡ Some w → r ≡ w
+pub some_request : (r w : Request) → Some r ≡ Some w → r ≡ w
 some_request r w e = cc e
 
-write_parts : (e x : Extent) (p q : List ℕ) → Write e p ≡ Write x q → e ≡ x
+pub write_parts : (e x : Extent) (p q : List ℕ) → Write e p ≡ Write x q → e ≡ x
 write_parts e x p q is = cc is
 
-module _ (g : Geometry) (m : Memory) (now : Contents) (may : Candidates) (f : Flat) (s : IsStanding g m now may f) (ticket : Ticket) (r : Request)
+module _ (g : Geometry) (m : Memory) (now : Contents) (may : Candidates) (f : Flat) (s : IsHeld g m now may f) (ticket : Ticket) (r : Request)
     (found : request_of ticket m.requests ≡ Some r) where
   found_here : request_of r.ticket m.requests ≡ Some r
   found_here = ap (λ t. request_of t m.requests) (found_ticket ticket m.requests r found) ∙ found
@@ -160,7 +161,7 @@ module _ (g : Geometry) (m : Memory) (now : Contents) (may : Candidates) (f : Fl
           only : (v w : List ℕ) → w ≡ v → Contains (v ∷ []) w
           only v w is = (0, omega arith, sym is)
       writes_keep Failed new_now new_may does =
-          subst (λ x. AllowsAll g.blocks (Fails x content ∷ []) f × IsStanding g (record (memory_written m block) { requests = without_request r.ticket m.requests }) new_now new_may (after g.blocks (Fails x content) f)) (ap (λ o. (extent_of o).first + r.done) (sym op)) (
+          subst (λ x. AllowsAll g.blocks (Fails x content ∷ []) f × IsHeld g (record (memory_written m block) { requests = without_request r.ticket m.requests }) new_now new_may (after g.blocks (Fails x content) f)) (ap (λ o. (extent_of o).first + r.done) (sym op)) (
             (tt, tt),
             standing_without g (memory_written m block) r.ticket new_now new_may (flat_written f block content (added (f.current block) content)) not_held
                 (written g m block content (added (f.current block) content) now new_now may new_may f s on command does reads (stays_valid g.blocks (Fails block content) f s.state tt (f_settled.0, f_settled.1, plain)) settled direct),
@@ -197,7 +198,7 @@ module _ (g : Geometry) (m : Memory) (now : Contents) (may : Candidates) (f : Fl
       reads_keep (Gave v) new_now new_may does = (
         (subst (May (f.current read_block)) (sym does.0) (s.shown read_block read_on), tt),
         standing_with g m (record r { op = with_read g.block_size r.op r.done v; done = r.done + 1 }) new_now new_may (after g.blocks (Reads read_block v) f) not_read (read_more v)
-            (same_disk g m (after g.blocks (Reads read_block v) f) now new_now may new_may does.1 does.2 (subst (λ u. IsStanding g m now may (after g.blocks (Reads read_block u) f)) (sym does.0) (standing_read g m now may f s read_block read_on))),
+            (same_disk g m (after g.blocks (Reads read_block v) f) now new_now may new_may does.1 does.2 (subst (λ u. IsHeld g m now may (after g.blocks (Reads read_block u) f)) (sym does.0) (standing_read g m now may f s read_block read_on))),
       )
       reads_keep Failed new_now new_may does = (tt, standing_without g m r.ticket new_now new_may f not_read (same_disk g m f now new_now may new_may does.0 does.1 s))
       reads_keep Succeeded new_now new_may does = absurd does
@@ -210,7 +211,7 @@ module _ (g : Geometry) (m : Memory) (now : Contents) (may : Candidates) (f : Fl
       not_flush = other_op Flush op refl (λ x q is. absurd (grind arith))
 
       go : TaskKeeps g m now may f (FlushesFor r)
-      go Succeeded new_now new_may does = ((tt, tt), standing_without g m r.ticket new_now new_may (after g.blocks Flushes f) not_flush (subst (λ x. IsStanding g m x new_may (after g.blocks Flushes f)) (sym does.0) (standing_flushed g m now may f s new_may command (settled_now passed) does.1)))
+      go Succeeded new_now new_may does = ((tt, tt), standing_without g m r.ticket new_now new_may (after g.blocks Flushes f) not_flush (subst (λ x. IsHeld g m x new_may (after g.blocks Flushes f)) (sym does.0) (standing_flushed g m now may f s new_may command (settled_now passed) does.1)))
       go Failed new_now new_may does = (tt, standing_without g m r.ticket new_now new_may f not_flush (same_disk g m f now new_now may new_may does.0 does.1 s))
       go (Gave v) new_now new_may does = absurd does
 
@@ -257,7 +258,7 @@ module _ (g : Geometry) (m : Memory) (now : Contents) (may : Candidates) (f : Fl
   task_keeps Commit is = waits_keep g m now may f s
 
 -- A turn of a request.
-pub map_keeps : (g : Geometry) (m : Memory) (ticket : Ticket) (now : Contents) (may : Candidates) (f : Flat) → IsStanding g m now may f
+pub map_keeps : (g : Geometry) (m : Memory) (ticket : Ticket) (now : Contents) (may : Candidates) (f : Flat) → IsHeld g m now may f
     → TaskKeeps g m now may f (task_of g m (Map ticket))
 map_keeps g m ticket now may f s = go (request_of ticket m.requests) refl
   where

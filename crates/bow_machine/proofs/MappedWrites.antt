@@ -20,7 +20,8 @@ use Rattle.bow_machine.specs.Memory.{Memory, has_command, has_move, may_be_writt
 use Rattle.bow_machine.specs.Steps.{one_block}
 use Rattle.bow_machine.specs.Calls.{WriteTried}
 use Rattle.bow_machine.proofs.MappedTests.{for_inside}
-use Rattle.bow_machine.specs.Standing.{device_of, IsTable, IsTrimmed, is_touched, IsKept, Kept, IsHidden, Room, HandHeld, IsStanding}
+use Rattle.bow_machine.specs.MemoryIsSound.{IsTable, is_touched}
+use Rattle.bow_machine.proofs.Held.{device_of, IsTrimmed, IsKept, Kept, IsHidden, Room, HandHeld, IsHeld}
 use Rattle.bow_machine.proofs.Tables.{kind_one, kind_other, table_with, count_one}
 use Rattle.bow_machine.proofs.Mapped.{IsOpen, OpenChange, kept_open, StillHeld, hand_open, hand_empty}
 
@@ -46,17 +47,17 @@ may_none c v none = subst (λ u. May u v) (sym none) tt
 pub not_0 : (b : ℕ) → b ≢ 0 → (b == 0) ≡ false
 not_0 b ne = grind arith
 
-is_0 : (b : ℕ) → b ≡ 0 → (b == 0) ≡ true
+pub is_0 : (b : ℕ) → b ≡ 0 → (b == 0) ≡ true
 is_0 b e = grind arith
 
-kinds_at_0 : (phase : Phase) (table : List Kind) (b : ℕ) → b ≡ 0 → kinds_written phase table b ≡ table
+pub kinds_at_0 : (phase : Phase) (table : List Kind) (b : ℕ) → b ≡ 0 → kinds_written phase table b ≡ table
 kinds_at_0 phase table b e = rw (is_0 b e) refl
 
-kinds_above : (phase : Phase) (table : List Kind) (b : ℕ) → b ≢ 0
+pub kinds_above : (phase : Phase) (table : List Kind) (b : ℕ) → b ≢ 0
     → kinds_written phase table b ≡ with_kind table (one_block b) (kind_written phase (kind_at table b))
 kinds_above phase table b ne = rw (not_0 b ne) refl
 
-written_here : (phase : Phase) (table : List Kind) (b : ℕ) → b ≢ 0 → b < length table
+pub written_here : (phase : Phase) (table : List Kind) (b : ℕ) → b ≢ 0 → b < length table
     → kind_at (kinds_written phase table b) b ≡ kind_written phase (kind_at table b)
 written_here phase table b ne on = ap (λ (t : List Kind). kind_at t b) (kinds_above phase table b ne) ∙ kind_one table b (kind_written phase (kind_at table b)) on
 
@@ -80,7 +81,7 @@ no_sector0 Arming kind e = e
 no_sector0 Deciding kind e = e
 no_sector0 Committed kind e = e
 
-table_written : (g : Geometry) (phase : Phase) (table : List Kind) (b : ℕ) → b < g.blocks → IsTable g table → IsTable g (kinds_written phase table b)
+pub table_written : (g : Geometry) (phase : Phase) (table : List Kind) (b : ℕ) → b < g.blocks → IsTable g table → IsTable g (kinds_written phase table b)
 table_written g phase table b on t = elim (cases_eq b 0) [
   | inl e ↦ subst (IsTable g) (sym (kinds_at_0 phase table b e)) t
   | inr ne ↦ subst (IsTable g) (sym (kinds_above phase table b ne)) (table_with g table (one_block b) (kind_written phase (kind_at table b)) (λ e. ne (t.only_0 b on (no_sector0 phase (kind_at table b) e))) (omega (arith, on)) (inl (omega (arith, ne))) t)
@@ -93,7 +94,7 @@ loose_kind k loose tight = grind arith
 open_current : (k : Kind) → IsOpen k → k ≡ Current → ⊥
 open_current k is_open e = grind arith
 
-open_kind : (k : Kind) → may_be_written k ≡ true → IsOpen k
+pub open_kind : (k : Kind) → may_be_written k ≡ true → IsOpen k
 open_kind Changed h = inl refl
 open_kind Free h = inr refl
 open_kind Sector0 h = absurd (grind arith)
@@ -102,12 +103,12 @@ open_kind Unchanged h = absurd (grind arith)
 open_kind Backup h = absurd (grind arith)
 open_kind Saved h = absurd (grind arith)
 
-open_written : (k : Kind) → IsOpen k → kind_written Checkpoint k ≡ Changed
+pub open_written : (k : Kind) → IsOpen k → kind_written Checkpoint k ≡ Changed
 open_written k (inl is) = ap (kind_written Checkpoint) is
 open_written k (inr is) = ap (kind_written Checkpoint) is
 
 -- an open block counts as free or as touched
-open_counts : (k : Kind) → IsOpen k → cond (is_free k) 1 0 + cond (is_touched k) 1 0 ≡ 1
+pub open_counts : (k : Kind) → IsOpen k → cond (is_free k) 1 0 + cond (is_touched k) 1 0 ≡ 1
 open_counts k (inl is) = ap (λ k. cond (is_free k) 1 0 + cond (is_touched k) 1 0) is
 open_counts k (inr is) = ap (λ k. cond (is_free k) 1 0 + cond (is_touched k) 1 0) is
 
@@ -130,7 +131,7 @@ held_after block v now new_now may new_may x w has = elim (cases_eq x block) [
 ]
 
 module _ (g : Geometry) (m : Memory) (b : ℕ) (v : List ℕ) (c : Option (List (List ℕ))) (now new_now : Contents) (may new_may : Candidates) (f : Flat)
-    (s : IsStanding g m now may f) (on : b < g.blocks) (command : has_command m.hand ≡ false)
+    (s : IsHeld g m now may f) (on : b < g.blocks) (command : has_command m.hand ≡ false)
     (tried : WriteTried (place_of m b) v now new_now may new_may) (reads : May c (new_now (place_of m b))) (state : IsState (flat_written f b v c)) where
   fits : b < length m.kinds
   fits = omega (arith, on, s.table.size)
@@ -149,7 +150,7 @@ module _ (g : Geometry) (m : Memory) (b : ℕ) (v : List ℕ) (c : Option (List 
         (λ ne. subst (May (f.current x)) (ap now (own x) ∙ sym (given.others_now x ne) ∙ ap new_now (sym (own x))) (s.shown x inside))
 
     plain_written : Kept g (memory_written m b) new_now new_may (flat_written f b v c) m.phase m.log
-        → IsStanding g (memory_written m b) new_now new_may (flat_written f b v c)
+        → IsHeld g (memory_written m b) new_now new_may (flat_written f b v c)
     plain_written kept = record {
       sizes = s.sizes;
       state = state;
@@ -318,7 +319,7 @@ module _ (g : Geometry) (m : Memory) (b : ℕ) (v : List ℕ) (c : Option (List 
           ]
         ]
 
-    checkpoint_written : IsStanding g (memory_written m b) new_now new_may (flat_written f b v c)
+    checkpoint_written : IsHeld g (memory_written m b) new_now new_may (flat_written f b v c)
     checkpoint_written = record {
       sizes = s.sizes;
       state = state;
@@ -336,11 +337,11 @@ module _ (g : Geometry) (m : Memory) (b : ℕ) (v : List ℕ) (c : Option (List 
 
   -- A write in place, or one that failed, of a block that may be written so.
   pub written : (m.phase ≢ Arming) × (m.phase ≢ Deciding) → is_direct m m.phase b ≡ true
-      → IsStanding g (memory_written m b) new_now new_may (flat_written f b v c)
+      → IsHeld g (memory_written m b) new_now new_may (flat_written f b v c)
   written settled direct = go m.phase refl m.log refl s.kept
     where
       go : (p : Phase) → m.phase ≡ p → (l : Option Generation) → m.log ≡ l → Kept g m now may f p l
-          → IsStanding g (memory_written m b) new_now new_may (flat_written f b v c)
+          → IsHeld g (memory_written m b) new_now new_may (flat_written f b v c)
       go Trim is None none (pending, trimmed) = plain_written none (λ e. no_phase (sym is ∙ e)) (subst₂ (λ p l. Kept g (memory_written m b) new_now new_may (flat_written f b v c) p l) (sym is) (sym none) (pending_written g f g.blocks b v now new_now may new_may (given none (λ e. no_phase (sym is ∙ e))) pending, trimmed_written none (λ e. no_phase (sym is ∙ e)) is trimmed))
         where
           no_phase : Trim ≢ Checkpoint

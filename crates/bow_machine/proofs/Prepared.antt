@@ -24,7 +24,8 @@ use Rattle.bow_machine.specs.Memory.{Memory, Empty, place_with, is_kind_current}
 use Rattle.bow_machine.specs.Calls.{WriteTried}
 use Rattle.bow_machine.specs.Tasks.{spelling}
 use Rattle.bow_machine.specs.Steps.{log_or_blank, log_of_memory, armed, first_log, copy_entry, one_block}
-use Rattle.bow_machine.specs.Standing.{device_of, IsTrimmed, IsHidden, IsKept, Kept, PicksHeld, IsStanding}
+use Rattle.bow_machine.specs.MemoryIsSound.{PicksHeld}
+use Rattle.bow_machine.proofs.Held.{device_of, IsTrimmed, IsHidden, IsKept, Kept, IsHeld}
 use Rattle.bow_machine.proofs.Tables.{table_with}
 use Rattle.bow_machine.proofs.Counts.{count_trimmed, none_touched, count_most, free_two, touched_two, taken_c, taken_b, taken_other}
 use Rattle.bow_machine.proofs.Spelled.{spelled, sum_small}
@@ -65,7 +66,7 @@ module _ (g : Geometry) where
   arming_facts m now may f None k = absurd k
   arming_facts m now may f (Some log) k = (log, refl, k)
 
-  module _ (m : Memory) (now : Contents) (may : Candidates) (f : Flat) (k : IsStanding g (emptied m) now may f) where
+  module _ (m : Memory) (now : Contents) (may : Candidates) (f : Flat) (k : IsHeld g (emptied m) now may f) where
     in_trim : m.phase ≡ Trim → (m.log ≡ None) × IsPending g f may × IsTrimmed g m.kinds f.trim
     in_trim is = trim_facts (emptied m) now may f m.log (subst (λ p. Kept g (emptied m) now may f p m.log) is k.kept)
 
@@ -94,7 +95,7 @@ module _ (g : Geometry) where
         go true e = absurd (known (f.current 0) k.state.current_0 (k.state.discarded (k.phases ∙ is) 0 e).0)
 
     -- a copy of block 0 is written to a free block, or the write fails
-    pub free_written : (new_now : Contents) (new_may : Candidates) (b : ℕ) (content : List ℕ) → m.phase ≡ Trim → b < g.blocks → kind_at m.kinds b ≡ kinds.Free → WriteTried b content now new_now may new_may → IsStanding g (emptied m) new_now new_may f
+    pub free_written : (new_now : Contents) (new_may : Candidates) (b : ℕ) (content : List ℕ) → m.phase ≡ Trim → b < g.blocks → kind_at m.kinds b ≡ kinds.Free → WriteTried b content now new_now may new_may → IsHeld g (emptied m) new_now new_may f
     free_written new_now new_may b content is on free tried = record {
       sizes = k.sizes;
       state = k.state;
@@ -122,7 +123,7 @@ module _ (g : Geometry) where
 
   -- the two copies of block 0 are durable: the phase is Arming
   module _ (m : Memory) (now : Contents) (may new_may : Candidates) (f : Flat) (ticket : Ticket) (c b : ℕ) (content : List ℕ)
-      (k : IsStanding g (emptied m) now may f) (p : PicksHeld g m c b) (read : content ≡ now 0) (wrote_c : now c ≡ content) (wrote_b : now b ≡ content) (flushed : IsFlushed g now new_may) where
+      (k : IsHeld g (emptied m) now may f) (p : PicksHeld g m c b) (read : content ≡ now 0) (wrote_c : now c ≡ content) (wrote_b : now b ≡ content) (flushed : IsFlushed g now new_may) where
     abbrev next : Memory
     next = emptied (armed m ticket c b content)
 
@@ -259,7 +260,7 @@ module _ (g : Geometry) where
             clash : (kind : Kind) → kind_at next.kinds x ≡ kind → is_kind_current kind ≡ false → ⊥
             clash kind same none = let e : true ≡ false = ap is_kind_current (sym is ∙ same) ∙ none in absurd (grind arith)
 
-    pub arms_stands : IsStanding g next now new_may arming
+    pub arms_stands : IsHeld g next now new_may arming
     arms_stands = record {
       sizes = k.sizes;
       state = stays_valid g.blocks (Arms now) f k.state arms_allowed tt;
@@ -283,7 +284,7 @@ module _ (g : Geometry) where
   place_not_0 log is zero e = omega (arith, is.current_not_0, e)
   place_not_0 log is (suc x) e = let same = place_above (Some log) (suc x) (omega arith) in omega (arith, same, e)
 
-  module _ (m : Memory) (now new_now : Contents) (may new_may : Candidates) (f : Flat) (k : IsStanding g (emptied m) now may f) where
+  module _ (m : Memory) (now new_now : Contents) (may new_may : Candidates) (f : Flat) (k : IsHeld g (emptied m) now may f) where
     -- after a write of block 0 each block holds one of its candidates, and shows what it did
     pub held_0 : (content : List ℕ) → WriteTried 0 content now new_now may new_may → (x : ℕ) → x < g.blocks → Contains (new_may x) (new_now x)
     held_0 content tried x inside = elim (cases_eq x 0) [
@@ -295,7 +296,7 @@ module _ (g : Geometry) where
     shown_0 content log is same tried x inside = subst (May (f.current x)) (sym (tried.given.others_now (place_with m.log x) (subst (λ l. place_with l x ≢ 0) (sym same) (place_not_0 log is x)))) (k.shown x inside)
 
     -- the first log is written, or the write fails
-    pub first_written : m.phase ≡ Arming → WriteTried 0 (spelling g (log_of_memory m)) now new_now may new_may → IsStanding g (emptied m) new_now new_may f
+    pub first_written : m.phase ≡ Arming → WriteTried 0 (spelling g (log_of_memory m)) now new_now may new_may → IsHeld g (emptied m) new_now new_may f
     first_written is tried = record {
       sizes = k.sizes;
       state = k.state;
@@ -325,14 +326,14 @@ module _ (g : Geometry) where
         written = arms_written g f (device_of (emptied m) log a.2.older a.2.clean_log a.2.clean_older now may) new_now new_may (spelling g (log_of_memory m)) spells tried.given a.2.leaves
 
   -- what block 0 then holds
-  pub first_spelled : (m : Memory) (now : Contents) (may : Candidates) (f : Flat) → IsStanding g (emptied m) now may f → m.phase ≡ Arming → (log : Generation) → m.log ≡ Some log → log_in g (spelling g (log_of_memory m)) ≡ Some log
+  pub first_spelled : (m : Memory) (now : Contents) (may : Candidates) (f : Flat) → IsHeld g (emptied m) now may f → m.phase ≡ Arming → (log : Generation) → m.log ≡ Some log → log_in g (spelling g (log_of_memory m)) ≡ Some log
   first_spelled m now may f k is log same =
       let a = in_arming m now may f k is in
       ap (λ l. log_in g (spelling g (log_or_blank l))) a.1 ∙ spelled g a.0 k.sizes a.2.leaves.log.behind.valid a.2.fits ∙ sym a.1 ∙ same
 
   -- the first log is durable, and with it the checkpoint
-  pub first_flushed : (m : Memory) (now : Contents) (may new_may : Candidates) (f : Flat) → IsStanding g (emptied m) now may f → m.phase ≡ Arming → ((log : Generation) → m.log ≡ Some log → log_in g (now 0) ≡ Some log) → IsFlushed g now new_may
-      → IsStanding g (record m { phase = Checkpoint; hand = Empty; clean = true }) now new_may (after g.blocks Prepares f)
+  pub first_flushed : (m : Memory) (now : Contents) (may new_may : Candidates) (f : Flat) → IsHeld g (emptied m) now may f → m.phase ≡ Arming → ((log : Generation) → m.log ≡ Some log → log_in g (now 0) ≡ Some log) → IsFlushed g now new_may
+      → IsHeld g (record m { phase = Checkpoint; hand = Empty; clean = true }) now new_may (after g.blocks Prepares f)
   first_flushed m now may new_may f k is given flushed = record {
     sizes = k.sizes;
     state = stays_valid g.blocks Prepares f k.state (k.phases ∙ is) tt;

@@ -12,20 +12,21 @@ use Rattle.bow_queue.specs.declared.tickets.Ticket.{Ticket}
 use Rattle.bow_machine.specs.Memory.{Memory, Hand, Empty, Preparing, PrepareAct, ReadsBlock0, WritesCurrent, WritesBackup, FlushesCopies, WritesFirstLog, FlushesFirstLog, reserved}
 use Rattle.bow_machine.specs.Calls.{Reply, Failed, Succeeded, Gave, Does, WriteTried}
 use Rattle.bow_machine.specs.Steps.{call_of_prepare, prepare_step, armed}
-use Rattle.bow_machine.specs.Standing.{PicksHeld, PrepareHeld, ForCommand, HandHeld, IsStanding}
+use Rattle.bow_machine.specs.MemoryIsSound.{PicksHeld}
+use Rattle.bow_machine.proofs.Held.{PrepareHeld, ForCommand, HandHeld, IsHeld}
 use Rattle.bow_machine.proofs.Hands.{emptied, rehanded, same_disk, Keeps, ends}
 use Rattle.bow_machine.proofs.Prepared.{above_0, free_written, arms_allowed, arms_stands, first_written, first_spelled, first_flushed}
 
 picks_handed : (g : Geometry) (m : Memory) (c b : ℕ) (hand : Hand) → PicksHeld g m c b → PicksHeld g (record m { hand = hand }) c b
 picks_handed g m c b hand p = record { phase = p.phase; apart = p.apart; c_inside = p.c_inside; b_inside = p.b_inside; c_free = p.c_free; b_free = p.b_free }
 
-module _ (g : Geometry) (m : Memory) (now new_now : Contents) (may new_may : Candidates) (f : Flat) (t : Ticket) (c b : ℕ) (waits : ForCommand m.requests t) (e : IsStanding g (emptied m) now may f) where
+module _ (g : Geometry) (m : Memory) (now new_now : Contents) (may new_may : Candidates) (f : Flat) (t : Ticket) (c b : ℕ) (waits : ForCommand m.requests t) (e : IsHeld g (emptied m) now may f) where
   -- an act that failed before arming, or left the disk as it was
-  failed : IsStanding g (emptied m) new_now new_may f → Keeps g new_now new_may f (prepare_step now m t c b ReadsBlock0 Failed)
+  failed : IsHeld g (emptied m) new_now new_may f → Keeps g new_now new_may f (prepare_step now m t c b ReadsBlock0 Failed)
   failed k = ends g m new_now new_may f t (λ r. outcomes.DiskFault 0) [] waits tt k
 
   -- the next act
-  next : (act : PrepareAct) → PrepareHeld g (record m { hand = Preparing t c b act }) c b act new_now → IsStanding g (emptied m) new_now new_may f → IsStanding g (record m { hand = Preparing t c b act }) new_now new_may f
+  next : (act : PrepareAct) → PrepareHeld g (record m { hand = Preparing t c b act }) c b act new_now → IsHeld g (emptied m) new_now new_may f → IsHeld g (record m { hand = Preparing t c b act }) new_now new_may f
   next act held k = rehanded g new_now new_may f (emptied m) (Preparing t c b act) refl (held, waits) k
 
   -- block 0 stays as it was
@@ -64,7 +65,7 @@ module _ (g : Geometry) (m : Memory) (now new_now : Contents) (may new_may : Can
   acts FlushesFirstLog (Gave v) p does = absurd does
 
 -- a prepare that is in hand
-pub prepare_keeps : (g : Geometry) (m : Memory) (now new_now : Contents) (may new_may : Candidates) (f : Flat) (t : Ticket) (c b : ℕ) (act : PrepareAct) (reply : Reply) → m.hand ≡ Preparing t c b act → IsStanding g m now may f
+pub prepare_keeps : (g : Geometry) (m : Memory) (now new_now : Contents) (may new_may : Candidates) (f : Flat) (t : Ticket) (c b : ℕ) (act : PrepareAct) (reply : Reply) → m.hand ≡ Preparing t c b act → IsHeld g m now may f
     → Does g (call_of_prepare g m c b act) reply now may new_now new_may → Keeps g new_now new_may f (prepare_step now m t c b act reply)
 prepare_keeps g m now new_now may new_may f t c b act reply hand k does =
     let held = subst (λ h. HandHeld g m h now may m.log) hand k.in_hand in

@@ -6,7 +6,7 @@ use Rattle.std.proofs.lemmas.Bool.{cases_Bool, and_parts, eqb-true, eq-eqb, fals
 use Rattle.bow_queue.specs.declared.tickets.Ticket.{Ticket}
 use Rattle.bow_queue.specs.Requests.{same_ticket}
 use Rattle.bow_machine.specs.Requests.{Request, request_of, without_request, with_request}
-use Rattle.bow_machine.specs.Standing.{IsRequest}
+use Rattle.bow_machine.specs.MemoryIsSound.{IsRequest}
 
 -- ----------------------------------------------------------------------------------------------------------------
 -- Tickets.

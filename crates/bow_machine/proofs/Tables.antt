@@ -13,7 +13,7 @@ use Rattle.bow_ranges.specs.Kinds.{is_free, kind_at, holds, count_of, part, with
 use Rattle.bow_ranges.proofs.KindLists.{kind_below, kind_inside, kind_above, length-with_kind, length-reclaimed, kind_at-reclaimed, count-with_kind, count-reclaimed}
 use Rattle.bow_ranges.proofs.RunReads.{count-append}
 use Rattle.bow_machine.specs.Steps.{one_block}
-use Rattle.bow_machine.specs.Standing.{IsTable, is_touched}
+use Rattle.bow_machine.specs.MemoryIsSound.{IsTable, is_touched}
 
 -- ----------------------------------------------------------------------------------------------------------------
 -- The kind of a block.

@@ -5,7 +5,7 @@ use Rattle.std.proofs.lemmas.Bool.{cases_Bool}
 use Rattle.bow_queue.specs.declared.tickets.Ticket.{Ticket}
 use Rattle.bow_queue.specs.Requests.{same_ticket, is_command}
 use Rattle.bow_machine.specs.Requests.{Request, request_of, without_request, with_request}
-use Rattle.bow_machine.specs.Standing.{OwnTickets, ForCommand}
+use Rattle.bow_machine.proofs.Held.{OwnTickets, ForCommand}
 use Rattle.bow_machine.proofs.RequestLists.{same_itself, same_is, is_same, differs, ticket_cases, gone_without, of_without, of_with_other, of_push_found}
 
 -- what is found is the request of its ticket

@@ -12,7 +12,7 @@ use Rattle.bow_machine.specs.Memory.{Memory, Hand, Empty, Batching, Preparing, C
 use Rattle.bow_machine.specs.Calls.{Reply, DoesIt}
 use Rattle.bow_machine.specs.Tasks.{Worker, Task, Waits, Acts, head, formed_for, serve, worker_task, task_of}
 use Rattle.bow_machine.specs.Steps.{call_of, step_of}
-use Rattle.bow_machine.specs.Standing.{Kept, HandHeld, IsStanding}
+use Rattle.bow_machine.proofs.Held.{Kept, HandHeld, IsHeld}
 use Rattle.bow_machine.proofs.Committed.{checkpoint_facts}
 use Rattle.bow_machine.proofs.BatchStands.{working, Working, from_standing}
 use Rattle.bow_machine.proofs.BatchAnswers.{keeps_same}
@@ -39,11 +39,11 @@ module _ (g : Geometry) where
     Stays m task =
         DoesIt g (call_of g m task) reply now may new_now new_may → Keeps g new_now new_may f (step_of g now m task reply)
 
-    waits_stays : (m : Memory) → IsStanding g m now may f → Stays m Waits
+    waits_stays : (m : Memory) → IsHeld g m now may f → Stays m Waits
     waits_stays m s does = keeps_same g now new_now may new_may f (step_of g now m Waits reply) does.0 does.1 (tt, s)
 
     -- for the head, if there is one
-    serve_stays : (m : Memory) (log : Generation) → IsStanding g (working m Empty log) now may f
+    serve_stays : (m : Memory) (log : Generation) → IsHeld g (working m Empty log) now may f
         → Stays (working m Empty log) (serve g (working m Empty log) (head g (working m Empty log)))
     serve_stays m log s = go (head g (working m Empty log)) refl
       where
@@ -58,7 +58,7 @@ module _ (g : Geometry) where
             subst (λ op. Stays (working m Empty log) (formed_for g (working m Empty log) r op (Some log)))
             (sym (is.2).op) (formed_keeps g m log f now may r is.0 is.1 is.2 w new_now new_may reply)
 
-    task_stays : (m : Memory) (hand : Hand) (phase : Phase) → m.hand ≡ hand → m.phase ≡ phase → IsStanding g m now may f
+    task_stays : (m : Memory) (hand : Hand) (phase : Phase) → m.hand ≡ hand → m.phase ≡ phase → IsHeld g m now may f
         → Stays m (worker_task g m hand phase)
     task_stays m (Batching b) phase is at s = go m.log refl (subst (λ h. HandHeld g m h now may m.log) is s.in_hand)
       where
@@ -66,12 +66,12 @@ module _ (g : Geometry) where
         go None none held = absurd held
         go (Some log) some held =
             let e : m ≡ working m (Batching b) log = memory_is m (Batching b) log held.phase is some in
-            subst (λ n. IsStanding g n now may f → Stays n (Acts n)) (sym e)
+            subst (λ n. IsHeld g n now may f → Stays n (Acts n)) (sym e)
             (λ s. batch_keeps g m log f now new_now may new_may reply b s) s
     task_stays m Empty Checkpoint is at s =
         let log = checkpoint_facts g m now may f m.log (subst (λ p. Kept g m now may f p m.log) at s.kept) in
         let e : m ≡ working m Empty log.0 = memory_is m Empty log.0 at is log.1 in
-        subst (λ n. IsStanding g n now may f → Stays n (serve g n (head g n))) (sym e) (serve_stays m log.0) s
+        subst (λ n. IsHeld g n now may f → Stays n (serve g n (head g n))) (sym e) (serve_stays m log.0) s
     task_stays m Empty Trim is at s = waits_stays m s
     task_stays m Empty Arming is at s = waits_stays m s
     task_stays m Empty Deciding is at s = waits_stays m s
@@ -80,7 +80,7 @@ module _ (g : Geometry) where
     task_stays m (Committing t again act) phase is at s = waits_stays m s
 
     -- A turn of the worker, whatever it does: it waits, answers that there is no space, forms a batch, or goes on with one.
-    pub worker_keeps : (m : Memory) → IsStanding g m now may f
+    pub worker_keeps : (m : Memory) → IsHeld g m now may f
         → DoesIt g (call_of g m (task_of g m Worker)) reply now may new_now new_may
         → Keeps g new_now new_may f (step_of g now m (task_of g m Worker) reply)
     worker_keeps m s = task_stays m m.hand m.phase refl refl s

@@ -1,5 +1,5 @@
--- As long as no call on the disk has failed, whatever a cut leaves is ahead: once what its log's current block 0 holds is
--- put into block 0, it stands as after a commit.
+-- As long as no call on the disk has failed, whatever a cut leaves is ahead: once what its log's current block 0 holds
+-- is put into block 0, it stands as after a commit.
 use Rattle.std.specs.Prelude.{ℕ, ◌<◌, ◌≡◌, ◌⊎◌, List, [], ◌∷◌, ◌++◌, slice_index_or, Option, Some, None, Contains}
 use Rattle.bow_units.specs.declared.sizes.Geometry.{Geometry}
 use Rattle.bow_units.specs.Magics.{HasMagic}
@@ -28,8 +28,8 @@ use Rattle.bow_machine.specs.Laws.{after_all, opened}
 abbrev pub Shows0 : Candidates → (ℕ → Option (List (List ℕ))) → ℕ → Type 0
 Shows0 may pending place = (v : List ℕ) → Contains (may place) v → May (pending 0) v
 
--- the kind of the place where the current block 0 lies, or of one from which it moved while the new log is not yet known to
--- be durable: no write in place of another block falls on a block of such a kind
+-- the kind of the place where the current block 0 lies, or of one from which it moved while the new log is not yet
+-- known to be durable: no write in place of another block falls on a block of such a kind
 abbrev pub IsPlace0 : Kind → Type 0
 IsPlace0 kind = (kind ≡ Current) ⊎ (kind ≡ Saved)
 
@@ -39,8 +39,8 @@ abbrev pub BeginsLog : Phase → List ℕ → Type 0
 BeginsLog phase block = (phase ≡ Checkpoint) ⊎ HasMagic block
 
 -- What leads a cut ahead: each candidate of a block other than 0 is pending; so is, of block 0, each one of the current
--- place of a log that a cut may leave in block 0, and of the log in memory. In Arming that place is settled; in Checkpoint
--- block 0 holds the log in memory; in Deciding a cut leaves no other log there.
+-- place of a log that a cut may leave in block 0, and of the log in memory. In Arming that place is settled; in
+-- Checkpoint block 0 holds the log in memory; in Deciding a cut leaves no other log there.
 pub record IsLedIn (g : Geometry) (phase : Phase) (kinds : List Kind) (log : Option Generation) (now : Contents)
     (may : Candidates) (pending : ℕ → Option (List (List ℕ))) : Type 0 where
   pub others : (b : ℕ) → 0 < b → b < g.blocks → (v : List ℕ) → Contains (may b) v → May (pending b) v
@@ -67,12 +67,15 @@ OpeningIsLed = (g : Geometry) (image : List (List ℕ)) → IsValid g → HasNoM
 
 -- So is one that takes in a request.
 abbrev pub AdmitIsLed : Type 0
-AdmitIsLed = (g : Geometry) (m : Memory) (now : Contents) (may : Candidates) (f : Flat) (r : Request) → IsLed g m now may f
+AdmitIsLed =
+    (g : Geometry) (m : Memory) (now : Contents) (may : Candidates) (f : Flat) (r : Request) → IsLed g m now may f
     → IsLed g (record m { requests = m.requests ++ r ∷ [] }) now may f
 
 -- Each step whose call, if it makes one, does not fail leads from a machine that stands and is led to one that is led.
 abbrev pub LedKeeps : Type 0
-LedKeeps = (g : Geometry) (m : Memory) (turn : Turn) (reply : Reply) (now new_now : Contents) (may new_may : Candidates) (f : Flat)
+LedKeeps =
+    (g : Geometry) (m : Memory) (turn : Turn) (reply : Reply) (now new_now : Contents) (may new_may : Candidates)
+    (f : Flat)
     → IsStanding g m now may f → IsLed g m now may f → (reply ≡ Failed → call_of g m (task_of g m turn) ≡ None)
     → DoesIt g (call_of g m (task_of g m turn)) reply now may new_now new_may
     → let step = step_of g now m (task_of g m turn) reply in
@@ -97,10 +100,12 @@ abbrev pub AheadIsLed : Type 0
 AheadIsLed = (g : Geometry) (m : Memory) (now : Contents) (may : Candidates) (one f : Flat)
     → IsLed g m now may one → IsStanding g m now may f → AllAhead g m.phase may f → IsLed g m now may f
 
--- So for each state for which a machine that is led stands, and whatever a cut leaves is ahead, it is so after each step
--- whose call, if it makes one, does not fail.
+-- So for each state for which a machine that is led stands, and whatever a cut leaves is ahead, it is so after each
+-- step whose call, if it makes one, does not fail.
 abbrev pub AheadKeeps : Type 0
-AheadKeeps = (g : Geometry) (m : Memory) (turn : Turn) (reply : Reply) (now new_now : Contents) (may new_may : Candidates) (one f : Flat)
+AheadKeeps =
+    (g : Geometry) (m : Memory) (turn : Turn) (reply : Reply) (now new_now : Contents) (may new_may : Candidates)
+    (one f : Flat)
     → IsLed g m now may one → IsStanding g m now may f → AllAhead g m.phase may f
     → (reply ≡ Failed → call_of g m (task_of g m turn) ≡ None)
     → DoesIt g (call_of g m (task_of g m turn)) reply now may new_now new_may

@@ -1,6 +1,7 @@
 -- The calls on the disk, and what each does to what the disk holds and to what a cut may leave.
-use Rattle.std.specs.Prelude.{ℕ, ◌≡◌, List, Option, Some, None, Contains}
+use Rattle.std.specs.Prelude.{ℕ, zero, suc, ◌≡◌, List, Option, Some, None, Contains}
 use Rattle.bow_units.specs.declared.sizes.Geometry.{Geometry}
+use Rattle.bow_disk.specs.Disk.{Content, TimeGoes}
 use Rattle.bow_chain.specs.Contents.{Contents}
 use Rattle.bow_guard.specs.Cuts.{Candidates, IsFlushed, WriteGiven}
 
@@ -36,3 +37,16 @@ Does g FlushCall (Gave v) now may new_now new_may = ⊥
 abbrev pub DoesIt : Geometry → Option Call → Reply → Contents → Candidates → Contents → Candidates → Type 0
 DoesIt g None reply now may new_now new_may = (new_now ≡ now) × (new_may ≡ may)
 DoesIt g (Some call) reply now may new_now new_may = Does g call reply now may new_now new_may
+
+-- ----------------------------------------------------------------------------------------------------------------
+-- How many calls pass.
+
+-- a call counts as one
+abbrev pub calls_in : Option Call → ℕ
+calls_in None = 0
+calls_in (Some call) = 1
+
+-- so many calls passed on a disk's clock and on its cuts: none, or one
+abbrev pub Passes : ℕ → Option Content → ℕ → ℕ → (ℕ → List (List ℕ) → Type 0) → (ℕ → List (List ℕ) → Type 0) → Type 0
+Passes zero content before now past since = (now ≡ before) × ((t : ℕ) (c : List (List ℕ)) → since t c → past t c)
+Passes (suc n) content before now past since = TimeGoes content before now past since

@@ -84,7 +84,8 @@ picks (Move from to) = record { first = to; count = 1 }
 
 -- the picked blocks of a batch, until its log is given to the disk
 abbrev pub reserved_by : Batch → Extent
-reserved_by b = if log_tried b.progress.job b.progress.done then record { first = 0; count = 0 } else picks b.progress.job
+reserved_by b =
+    if log_tried b.progress.job b.progress.done then record { first = 0; count = 0 } else picks b.progress.job
 
 -- the picked blocks of what is in hand
 abbrev pub reserved : Hand → Extent
@@ -139,4 +140,5 @@ kind_written phase kind = kind
 
 -- the kinds after a write of this block was tried in place
 abbrev pub kinds_written : Phase → List Kind → ℕ → List Kind
-kinds_written phase kinds b = if b == 0 then kinds else with_kind kinds (record { first = b; count = 1 }) (kind_written phase (kind_at kinds b))
+kinds_written phase kinds b = if b ==
+    0 then kinds else with_kind kinds (record { first = b; count = 1 }) (kind_written phase (kind_at kinds b))

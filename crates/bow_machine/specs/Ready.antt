@@ -9,12 +9,15 @@ use Rattle.bow_machine.specs.Requests.{Request, request_of, refusal}
 use Rattle.bow_machine.specs.Memory.{Memory, Hand, Empty, Batching, Preparing, Committing, has_command, is_direct}
 use Rattle.bow_machine.specs.Tasks.{Turn, Map, Worker, Command, Task, Waits, Answers, WritesBlock, ReadsBlock, FlushesFor, DiscardsFor, Acts, is_waiting, head, first_of}
 
--- A read is always ready, and a command never at its own turn. Nothing else is ready while a command is in hand. A write
--- that is refused is ready; another one where it waits on none, and, in Checkpoint, where it is written or its next block
--- is direct. A discard and a flush are ready.
+-- A read is always ready, and a command never at its own turn. Nothing else is ready while a command is in hand. A
+-- write that is refused is ready; another one where it waits on none, and, in Checkpoint, where it is written or its
+-- next block is direct. A discard and a flush are ready.
 abbrev pub is_ready_for : Geometry → Memory → Request → Op → Bool
 is_ready_for g m r (Read e p) = true
-is_ready_for g m r (Write e p) = not (has_command m.hand) && (not (is_none (refusal g m.phase (Write e p))) || (not (is_waiting m r) && (r.done == e.count || is_direct m m.phase (e.first + r.done))))
+is_ready_for g m r (Write e p) =
+    not (has_command m.hand)
+    && (not (is_none (refusal g m.phase (Write e p)))
+    || (not (is_waiting m r) && (r.done == e.count || is_direct m m.phase (e.first + r.done))))
 is_ready_for g m r (Discard e) = not (has_command m.hand)
 is_ready_for g m r Flush = not (has_command m.hand)
 is_ready_for g m r Prepare = false

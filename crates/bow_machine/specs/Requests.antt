@@ -1,4 +1,4 @@
--- The requests that wait, with their progress, and the tests that each has to pass.
+-- The tests that each request has to pass. The requests that wait are the queue's.
 use Rattle.std.specs.Prelude.{ℕ, ◌+◌, ◌*◌, ◌==◌, ◌&&◌, ◌||◌, Bool, true, false, not, if◌then◌else◌, List, [], ◌∷◌, ◌++◌, take, drop, map, filter, find, Option, Some, None}
 use Rattle.bow_units.specs.declared.sizes.Geometry.{Geometry}
 use Rattle.bow_units.specs.declared.sizes.Extent.{Extent}
@@ -11,33 +11,9 @@ use Rattle.bow_units.specs.declared.requests.Outcome.TheVariants.{OutOfRange, Re
 use Rattle.bow_units.specs.Magics.{log_magic, restoring_magic}
 use Rattle.bow_queue.specs.declared.tickets.Ticket.{Ticket}
 use Rattle.bow_queue.specs.Extents.{is_on_device}
-use Rattle.bow_queue.specs.Requests.{Waiting, same_ticket}
-
--- a request that was taken in and is not answered: its ticket, what it asks for, and how many of its blocks are done
-pub record Request : Type 0 where
-  pub ticket : Ticket
-  pub op : Op
-  pub done : ℕ
-
--- the same without their progress, as a queue keeps them
-abbrev pub waiting_of : List Request → List Waiting
-waiting_of requests = map (λ r. record { ticket = r.ticket; op = r.op }) requests
-
--- the request of this ticket
-abbrev pub request_of : Ticket → List Request → Option Request
-request_of ticket requests = find (λ r. same_ticket r.ticket ticket) requests
-
--- all but the request of this ticket
-abbrev pub without_request : Ticket → List Request → List Request
-without_request ticket requests = filter (λ r. not (same_ticket r.ticket ticket)) requests
-
--- with this request in the place of the one of its ticket
-abbrev pub with_request : Request → List Request → List Request
-with_request r requests = map (λ other. if same_ticket other.ticket r.ticket then r else other) requests
-
--- the buffer of a read with block i of it read
-abbrev pub filled : ℕ → List ℕ → ℕ → List ℕ → List ℕ
-filled size buffer i content = take (i * size) buffer ++ content ++ drop ((i + 1) * size) buffer
+use Rattle.bow_queue.specs.Requests.{same_ticket}
+pub use Rattle.bow_queue.specs.declared.requests.Request.{Request}
+pub use Rattle.bow_queue.specs.Requests.{request_of, without_request, with_request, filled, payload_of, with_read, first_of}
 
 -- the bytes begin so
 abbrev pub begins : List ℕ → List ℕ → Bool
@@ -65,7 +41,9 @@ unsettled Committed = None
 -- tested for the first alone, and a command for none.
 abbrev pub refusal : Geometry → Phase → Op → Option Outcome
 refusal g phase (Read e p) = if is_on_device g.blocks e then None else Some OutOfRange
-refusal g phase (Write e p) = if is_on_device g.blocks e then (if is_reserved e p then Some ReservedMagic else unsettled phase) else Some OutOfRange
+refusal g phase (Write e p) =
+    if is_on_device g.blocks e then (if is_reserved e p then Some ReservedMagic else unsettled phase)
+    else Some OutOfRange
 refusal g phase (Discard e) = if is_on_device g.blocks e then unsettled phase else Some OutOfRange
 refusal g phase Flush = unsettled phase
 refusal g phase Prepare = None

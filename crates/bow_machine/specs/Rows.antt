@@ -20,7 +20,13 @@ sixteen = record { block_size = 512; blocks = 16 }
 
 -- the device just opened, and no call fails
 abbrev pub fresh : Run
-fresh = record { memory = opened 16; blocks = map (λ b. b ∷ []) (range_with_len 0 16); calls = []; told = []; failing = [] }
+fresh = record {
+  memory = opened 16;
+  blocks = map (λ b. b ∷ []) (range_with_len 0 16);
+  calls = [];
+  told = [];
+  failing = [];
+}
 
 -- the script's lines
 abbrev pub write : ℕ → ℕ → Op
@@ -83,29 +89,45 @@ backup source dest content = record { source = source; dest = dest; count = 1; s
 
 -- a prepare keeps block 0 twice: at the current place, and as the first backup
 abbrev pub PreparedRow : Type 0
-PreparedRow = (run_of_script (discard 8 8 ∷ Prepare ∷ [])).memory.log ≡ Some (record { restoring = false; sequence = 0; current = 8; entries = backup 0 9 (0 ∷ []) ∷ [] })
+PreparedRow =
+    (run_of_script (discard 8 8 ∷ Prepare ∷ [])).memory.log ≡ Some
+    (record { restoring = false; sequence = 0; current = 8; entries = backup 0 9 (0 ∷ []) ∷ [] })
 
 -- the calls of a prepare and of the first write of a block, in their order: each flush stands where it has to
 abbrev pub CallsRow : Type 0
 CallsRow = map bare (run_of_script (discard 8 8 ∷ Prepare ∷ write 1 5 ∷ [])).calls
-    ≡ ReadCall 0 ∷ WriteCall 8 [] ∷ WriteCall 9 [] ∷ FlushCall ∷ WriteCall 0 [] ∷ FlushCall ∷ ReadCall 1 ∷ WriteCall 10 [] ∷ FlushCall ∷ WriteCall 0 [] ∷ FlushCall ∷ WriteCall 1 [] ∷ []
+    ≡ ReadCall 0 ∷ WriteCall 8 [] ∷ WriteCall 9 [] ∷ FlushCall ∷ WriteCall 0 [] ∷ FlushCall ∷ ReadCall 1
+    ∷ WriteCall 10 [] ∷ FlushCall ∷ WriteCall 0 [] ∷ FlushCall ∷ WriteCall 1 [] ∷ []
 
 -- with one free block left one more block can be backed up; what is changed may be written again
 abbrev pub NoSpaceRow : Type 0
-NoSpaceRow = outcomes_of (run_of_script (discard 13 3 ∷ Prepare ∷ write 1 5 ∷ write 2 5 ∷ write 1 6 ∷ write 13 5 ∷ write 15 5 ∷ [])) ≡ Done ∷ Done ∷ Done ∷ NoSpace 0 ∷ Done ∷ NoSpace 0 ∷ NoSpace 0 ∷ []
+NoSpaceRow =
+    outcomes_of
+    (run_of_script (discard 13 3 ∷ Prepare ∷ write 1 5 ∷ write 2 5 ∷ write 1 6 ∷ write 13 5 ∷ write 15 5 ∷ []))
+    ≡ Done ∷ Done ∷ Done ∷ NoSpace 0 ∷ Done ∷ NoSpace 0 ∷ NoSpace 0 ∷ []
 
 -- the current block 0 gives way to a write of the block in which it lies, and is read where it has gone
 abbrev pub MovedData : Type 0
-MovedData = data_of (run_of_script (discard 8 8 ∷ Prepare ∷ read 0 ∷ write 0 5 ∷ read 0 ∷ write 8 6 ∷ read 0 ∷ read 8 ∷ [])) ≡ (0 ∷ []) ∷ (0 ∷ 5 ∷ []) ∷ (0 ∷ 5 ∷ []) ∷ (8 ∷ 6 ∷ []) ∷ []
+MovedData =
+    data_of (run_of_script (discard 8 8 ∷ Prepare ∷ read 0 ∷ write 0 5 ∷ read 0 ∷ write 8 6 ∷ read 0 ∷ read 8 ∷ []))
+    ≡ (0 ∷ []) ∷ (0 ∷ 5 ∷ []) ∷ (0 ∷ 5 ∷ []) ∷ (8 ∷ 6 ∷ []) ∷ []
 
 -- its log names the new place
 abbrev pub MovedLog : Type 0
-MovedLog = (run_of_script (discard 8 8 ∷ Prepare ∷ read 0 ∷ write 0 5 ∷ read 0 ∷ write 8 6 ∷ [])).memory.log ≡ Some (record { restoring = false; sequence = 0; current = 10; entries = backup 0 9 (0 ∷ []) ∷ [] })
+MovedLog =
+    (run_of_script (discard 8 8 ∷ Prepare ∷ read 0 ∷ write 0 5 ∷ read 0 ∷ write 8 6 ∷ [])).memory.log ≡ Some
+    (record { restoring = false; sequence = 0; current = 10; entries = backup 0 9 (0 ∷ []) ∷ [] })
 
 -- a backup moves on when its own block is written
 abbrev pub BackupsRow : Type 0
 BackupsRow = (run_of_script (discard 8 8 ∷ Prepare ∷ write 1 5 ∷ write 10 6 ∷ [])).memory.log
-    ≡ Some (record { restoring = false; sequence = 0; current = 8; entries = backup 0 9 (0 ∷ []) ∷ backup 1 10 (1 ∷ []) ∷ backup 10 11 (1 ∷ []) ∷ [] })
+    ≡ Some (record {
+      restoring = false;
+      sequence = 0;
+      current = 8;
+      entries = backup 0 9 (0 ∷ [])
+          ∷ backup 1 10 (1 ∷ []) ∷ backup 10 11 (1 ∷ []) ∷ [];
+    })
 
 -- a write of several blocks, of this payload
 abbrev pub write_run : ℕ → ℕ → List ℕ → Op
@@ -114,21 +136,32 @@ write_run first count payload = Write (record { first = first; count = count }) 
 -- a batch backs up all blocks of a write that one free run takes, with one entry and one write of the log
 abbrev pub BatchCalls : Type 0
 BatchCalls = drop 6 (map bare (run_of_script (discard 8 8 ∷ Prepare ∷ write_run 1 3 (5 ∷ []) ∷ [])).calls)
-    ≡ ReadCall 1 ∷ ReadCall 2 ∷ ReadCall 3 ∷ WriteCall 10 [] ∷ WriteCall 11 [] ∷ WriteCall 12 [] ∷ FlushCall ∷ WriteCall 0 [] ∷ FlushCall ∷ WriteCall 1 [] ∷ WriteCall 2 [] ∷ WriteCall 3 [] ∷ []
+    ≡ ReadCall 1 ∷ ReadCall 2 ∷ ReadCall 3 ∷ WriteCall 10 [] ∷ WriteCall 11 [] ∷ WriteCall 12 [] ∷ FlushCall
+    ∷ WriteCall 0 [] ∷ FlushCall ∷ WriteCall 1 [] ∷ WriteCall 2 [] ∷ WriteCall 3 [] ∷ []
 
 -- what is discarded after it was changed is free again, and holds the next backup
 abbrev pub ReclaimedLog : Type 0
 ReclaimedLog = (run_of_script (discard 13 3 ∷ Prepare ∷ write 1 5 ∷ discard 1 1 ∷ write 2 5 ∷ [])).memory.log
-    ≡ Some (record { restoring = false; sequence = 0; current = 13; entries = backup 0 14 (0 ∷ []) ∷ backup 1 15 (1 ∷ []) ∷ backup 2 1 (2 ∷ []) ∷ [] })
+    ≡ Some (record {
+      restoring = false;
+      sequence = 0;
+      current = 13;
+      entries = backup 0 14 (0 ∷ [])
+          ∷ backup 1 15 (1 ∷ []) ∷ backup 2 1 (2 ∷ []) ∷ [];
+    })
 
 -- a commit flushes, reads the current block 0, writes it in place, and flushes
 abbrev pub CommitCalls : Type 0
-CommitCalls = drop 12 (map bare (run_of_script (discard 8 8 ∷ Prepare ∷ write 1 5 ∷ Commit ∷ [])).calls) ≡ FlushCall ∷ ReadCall 8 ∷ WriteCall 0 [] ∷ FlushCall ∷ []
+CommitCalls =
+    drop 12 (map bare (run_of_script (discard 8 8 ∷ Prepare ∷ write 1 5 ∷ Commit ∷ [])).calls) ≡ FlushCall
+    ∷ ReadCall 8 ∷ WriteCall 0 [] ∷ FlushCall ∷ []
 
 -- the same device with 64 blocks, the last 34 of them discarded and a checkpoint begun; then blocks 1 to 20 are written
 abbrev pub long_run : Run
-long_run = played (record { block_size = 512; blocks = 64 }) (discard 30 34 ∷ Prepare ∷ map (λ i. write i 5) (range_with_len 1 20)) 0
-    (record { memory = opened 64; blocks = map (λ b. b ∷ []) (range_with_len 0 64); calls = []; told = []; failing = [] })
+long_run =
+    played (record { block_size = 512; blocks = 64 })
+    (discard 30 34 ∷ Prepare ∷ map (λ i. write i 5) (range_with_len 1 20)) 0
+    (record fresh { memory = opened 64; blocks = map (λ b. b ∷ []) (range_with_len 0 64) })
 
 -- the source and the dest of each entry of a log
 abbrev pub ends_of : Option Generation → List (ℕ × ℕ)
@@ -142,14 +175,18 @@ sequence_of (Some log) = log.sequence
 
 -- a full log is kept in a free block, and a new one names it
 abbrev pub LinkedLog : Type 0
-LinkedLog = (sequence_of long_run.memory.log ≡ 1) × (ends_of long_run.memory.log ≡ (0, 51) ∷ (20, 52) ∷ []) × (count_of is_free long_run.memory.kinds ≡ 11)
+LinkedLog =
+    (sequence_of long_run.memory.log ≡ 1) × (ends_of long_run.memory.log ≡ (0, 51) ∷ (20, 52) ∷ [])
+    × (count_of is_free long_run.memory.kinds ≡ 11)
 
 -- the write of the log, the tenth call of this run, fails: the write of the block is answered with that fault
 abbrev pub faulty_run : Run
 faulty_run = played sixteen (discard 8 8 ∷ Prepare ∷ write 1 5 ∷ write 1 8 ∷ []) 0 (record fresh { failing = 10 ∷ [] })
 
--- Its entry stays, and before anything else the log is written again and flushed; then the block is written, which needs
--- no second backup.
+-- Its entry stays, and before anything else the log is written again and flushed; then the block is written, which
+-- needs no second backup.
 abbrev pub FailedLog : Type 0
-FailedLog = (outcomes_of faulty_run ≡ Done ∷ Done ∷ DiskFault 0 ∷ Done ∷ []) × (drop 9 (map bare faulty_run.calls) ≡ WriteCall 0 [] ∷ WriteCall 0 [] ∷ FlushCall ∷ WriteCall 1 [] ∷ [])
+FailedLog =
+    (outcomes_of faulty_run ≡ Done ∷ Done ∷ DiskFault 0 ∷ Done ∷ [])
+    × (drop 9 (map bare faulty_run.calls) ≡ WriteCall 0 [] ∷ WriteCall 0 [] ∷ FlushCall ∷ WriteCall 1 [] ∷ [])
     × (ends_of faulty_run.memory.log ≡ (0, 9) ∷ (1, 10) ∷ [])

@@ -53,23 +53,45 @@ abbrev pub stepped : Geometry → Turn → Run → Run
 stepped g turn run =
     let task = task_of g run.memory turn in
     let call = call_of g run.memory task in
-    let step = step_of g (contents_of run.blocks) run.memory task (if fails run then Failed else reply_of run.blocks call) in
-    record { memory = step.memory; blocks = blocks_after run.blocks call; calls = with_call run.calls call; told = with_told run.told step.told; failing = run.failing }
+    let step =
+    step_of g (contents_of run.blocks) run.memory task (if fails run then Failed else reply_of run.blocks call) in
+    record {
+      memory = step.memory;
+      blocks = blocks_after run.blocks call;
+      calls = with_call run.calls call;
+      told = with_told run.told step.told;
+      failing = run.failing;
+    }
 
 -- of the three turns, the first that is ready
 abbrev pub ready_turn : Geometry → Memory → Ticket → Turn
-ready_turn g m ticket = if is_ready g m (Map ticket) then Map ticket else if is_ready g m Worker then Worker else Command
+ready_turn g m ticket =
+    if is_ready g m (Map ticket) then Map ticket else if is_ready g m Worker then Worker else Command
 
 -- steps until the request is answered: so many at most
 abbrev pub served : ℕ → Geometry → Ticket → Run → Run
 served zero g ticket run = run
-served (suc most) g ticket run = elim (is_none (request_of ticket run.memory.requests)) [ true ↦ run | false ↦ served most g ticket (stepped g (ready_turn g run.memory ticket) run) ]
+served (suc most) g ticket run =
+    elim
+    (is_none (request_of ticket run.memory.requests)) [
+      | true ↦ run
+      | false ↦ served most g ticket
+          (stepped g (ready_turn g run.memory ticket) run)
+    ]
 
 -- the request is taken in under a ticket of this serial number
 abbrev pub admitted : Op → ℕ → Run → Run
-admitted op serial run = record run { memory = record run.memory { requests = run.memory.requests ++ record { ticket = record { key = 0; serial = serial }; op = op; done = 0 } ∷ [] } }
+admitted op serial run =
+    record run {
+      memory =
+          record run.memory {
+            requests = run.memory.requests
+                ++ record { ticket = record { key = 0; serial = serial }; op = op; done = 0 } ∷ [];
+          };
+    }
 
 -- the requests one after the other, each served in at most twenty steps
 abbrev pub played : Geometry → List Op → ℕ → Run → Run
 played g [] serial run = run
-played g (op ∷ ops) serial run = played g ops (serial + 1) (served 20 g (record { key = 0; serial = serial }) (admitted op serial run))
+played g (op ∷ ops) serial run =
+    played g ops (serial + 1) (served 20 g (record { key = 0; serial = serial }) (admitted op serial run))

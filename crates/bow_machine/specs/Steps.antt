@@ -27,8 +27,9 @@ use Rattle.bow_flat.specs.Flat.Event.{Writes, Fails, Reads, Discards, Flushes, A
 use Rattle.bow_guard.specs.Device.{unsaved}
 use Rattle.bow_queue.specs.declared.tickets.Ticket.{Ticket}
 use Rattle.bow_queue.specs.Requests.{open_writes}
+pub use Rattle.bow_queue.specs.Requests.{payload_of, with_read}
 use Rattle.bow_ranges.specs.Kinds.{with_kind, reclaimed, is_free, count_of}
-use Rattle.bow_machine.specs.Requests.{Request, waiting_of, request_of, without_request, with_request, filled}
+use Rattle.bow_machine.specs.Requests.{Request, request_of, without_request, with_request, filled}
 use Rattle.bow_machine.specs.Memory.{Memory, Batch, Hand, Empty, Batching, Preparing, Committing, PrepareAct, ReadsBlock0, WritesCurrent, WritesBackup, FlushesCopies, WritesFirstLog, FlushesFirstLog, CommitAct, FlushesAll, ReadsCurrent, WritesBlock0, FlushesDecision, picks, place_of, kinds_written}
 use Rattle.bow_machine.specs.Calls.{Call, ReadCall, WriteCall, FlushCall, Reply, Failed, Succeeded, Gave}
 use Rattle.bow_machine.specs.Tasks.{Task, Waits, Answers, WritesBlock, ReadsBlock, FlushesFor, DiscardsFor, Acts, spelling}
@@ -39,15 +40,6 @@ pub data Told : Type 0 where
   Wrote Got : Ticket → ℕ → Told
   Answered : Ticket → Op → Outcome → Told
 
--- the payload of a write, and the extent of any request
-abbrev pub payload_of : Op → List ℕ
-payload_of (Read e p) = p
-payload_of (Write e p) = p
-payload_of (Discard e) = []
-payload_of Flush = []
-payload_of Prepare = []
-payload_of Commit = []
-
 -- the extent of a request
 abbrev pub extent_of : Op → Extent
 extent_of (Read e p) = e
@@ -56,11 +48,6 @@ extent_of (Discard e) = e
 extent_of Flush = record { first = 0; count = 0 }
 extent_of Prepare = record { first = 0; count = 0 }
 extent_of Commit = record { first = 0; count = 0 }
-
--- a read with this block of its buffer read
-abbrev pub with_read : ℕ → Op → ℕ → List ℕ → Op
-with_read size (Read e p) i v = Read e (filled size p i v)
-with_read size op i v = op
 
 -- the next block of a request's payload
 abbrev pub next_block : Geometry → Request → List ℕ
@@ -86,8 +73,15 @@ copy_entry source dest count slots = record { source = source; dest = dest; coun
 -- blocks; or with another current place.
 abbrev pub log_for : Job → List (List ℕ) → Generation → Generation
 log_for jobs.Rewrite slots log = log
-log_for (jobs.Link dest) slots log = record { restoring = false; sequence = log.sequence + 1; current = log.current; entries = copy_entry 0 dest 1 slots ∷ [] }
-log_for (jobs.Copy source dest count) slots log = record log { entries = log.entries ++ copy_entry source dest count slots ∷ [] }
+log_for (jobs.Link dest) slots log =
+    record {
+      restoring = false;
+      sequence = log.sequence + 1;
+      current = log.current;
+      entries = copy_entry 0 dest 1 slots ∷ [];
+    }
+log_for (jobs.Copy source dest count) slots log =
+    record log { entries = log.entries ++ copy_entry source dest count slots ∷ [] }
 log_for (jobs.Move from to) slots log = record log { current = to }
 
 -- the kinds just before the log is written: copied blocks, and the old current place, are saved
@@ -95,11 +89,18 @@ abbrev pub kinds_for : Job → List Kind → List Kind
 kinds_for jobs.Rewrite table = table
 kinds_for (jobs.Link dest) table = table
 kinds_for (jobs.Copy source dest count) table = with_kind table (record { first = source; count = count }) kinds.Saved
-kinds_for (jobs.Move from to) table = with_kind (with_kind table (record { first = to; count = 1 }) kinds.Current) (record { first = from; count = 1 }) kinds.Saved
+kinds_for (jobs.Move from to) table =
+    with_kind (with_kind table (record { first = to; count = 1 }) kinds.Current)
+    (record { first = from; count = 1 }) kinds.Saved
 
 -- the memory just before the log is written: from then on the log is not clean
 abbrev pub changed : Memory → Batch → Memory
-changed m b = record m { kinds = kinds_for b.progress.job m.kinds; log = option_map (log_for b.progress.job b.slots) m.log; clean = false }
+changed m b =
+    record m {
+      kinds = kinds_for b.progress.job m.kinds;
+      log = option_map (log_for b.progress.job b.slots) m.log;
+      clean = false;
+    }
 
 -- after the last flush the log is clean, and what was saved is changed
 abbrev pub cleaned : Memory → Memory
@@ -137,21 +138,28 @@ with_reply slots Failed = slots
 
 -- the batch after an act that was done
 abbrev pub went_on : Batch → Reply → Batch
-went_on b reply = record { progress = record { job = b.progress.job; done = b.progress.done + 1; failed = false }; slots = with_reply b.slots reply; ticket = b.ticket }
+went_on b reply =
+    record {
+      progress = record { job = b.progress.job; done = b.progress.done + 1; failed = false };
+      slots = with_reply b.slots reply;
+      ticket = b.ticket;
+    }
 
 -- the memory after an act of the batch, by what the act leads to
 abbrev pub batch_after : Memory → Batch → Reply → After → Memory
 batch_after m b reply afters.Going = record m { hand = Batching (went_on b reply) }
 batch_after m b reply afters.LogGiven = record (changed m b) { hand = Batching (went_on b reply) }
 batch_after m b reply afters.Clean = cleaned m
-batch_after m b reply (afters.Failed given) = if given then record (at_act m b) { hand = Empty } else given_up m b.progress.job
+batch_after m b reply (afters.Failed given) =
+    if given then record (at_act m b) { hand = Empty } else given_up m b.progress.job
 
 -- ----------------------------------------------------------------------------------------------------------------
 -- The command in hand.
 
 -- the first log: sequence 0, the current block 0 at c, and one entry from block 0 to b
 abbrev pub first_log : ℕ → ℕ → List ℕ → Generation
-first_log c b content = record { restoring = false; sequence = 0; current = c; entries = copy_entry 0 b 1 (content ∷ []) ∷ [] }
+first_log c b content =
+    record { restoring = false; sequence = 0; current = c; entries = copy_entry 0 b 1 (content ∷ []) ∷ [] }
 
 -- the call of an act of a prepare
 abbrev pub call_of_prepare : Geometry → Memory → ℕ → ℕ → PrepareAct → Call
@@ -196,14 +204,22 @@ call_of_commit m FlushesDecision = FlushCall
 
 -- the checkpoint is given up: all blocks but 0 are unchanged
 abbrev pub released : Memory → Memory
-released m = record m { phase = Committed; kinds = with_kind m.kinds (record { first = 1; count = length m.kinds - 1 }) kinds.Unchanged; hand = Empty; log = None; clean = false }
+released m =
+    record m {
+      phase = Committed;
+      kinds = with_kind m.kinds (record { first = 1; count = length m.kinds - 1 }) kinds.Unchanged;
+      hand = Empty;
+      log = None;
+      clean = false;
+    }
 
 -- the memory after an act of a commit that succeeded; the last one answers it
 abbrev pub commit_after : Memory → Ticket → Bool → CommitAct → Reply → Memory
 commit_after m t again FlushesAll reply = record m { hand = Committing t again ReadsCurrent }
 commit_after m t again ReadsCurrent (Gave v) = record m { hand = Committing t again (WritesBlock0 v) }
 commit_after m t again ReadsCurrent reply = m
-commit_after m t again (WritesBlock0 content) reply = record m { phase = Deciding; hand = Committing t again FlushesDecision }
+commit_after m t again (WritesBlock0 content) reply =
+    record m { phase = Deciding; hand = Committing t again FlushesDecision }
 commit_after m t again FlushesDecision reply = released m
 
 -- after an act of a commit that failed: from the deciding write on, the phase is Deciding
@@ -232,7 +248,8 @@ without_waiting m t = record m { requests = without_request t m.requests }
 
 -- the request is answered, and waits no more
 abbrev pub answered : Memory → Request → Outcome → List Event → Step
-answered m r outcome happens = record { memory = without_waiting m r.ticket; told = Answered r.ticket r.op outcome; events = happens }
+answered m r outcome happens =
+    record { memory = without_waiting m r.ticket; told = Answered r.ticket r.op outcome; events = happens }
 
 -- the request of a ticket is answered
 abbrev pub answered_for : Memory → Option Request → (Request → Outcome) → (Request → List Event) → Step
@@ -249,12 +266,24 @@ fault_events g r = Fails ((extent_of r.op).first + r.done) (next_block g r) ∷ 
 
 -- a block was written in place, or its write failed; the block counts as written all the same
 abbrev pub wrote : Geometry → Memory → Request → ℕ → Reply → Step
-wrote g m r b Failed = answered (record m { kinds = kinds_written m.phase m.kinds b }) r (outcomes.DiskFault r.done) (fault_events g r)
-wrote g m r b reply = record { memory = one_more (record m { kinds = kinds_written m.phase m.kinds b }) r; told = Wrote r.ticket r.done; events = Writes b (next_block g r) ∷ [] }
+wrote g m r b Failed =
+    answered (record m { kinds = kinds_written m.phase m.kinds b }) r (outcomes.DiskFault r.done) (fault_events g r)
+wrote g m r b reply =
+    record {
+      memory = one_more (record m { kinds = kinds_written m.phase m.kinds b }) r;
+      told = Wrote r.ticket r.done;
+      events = Writes b (next_block g r) ∷ [];
+    }
 
--- a block was read into the request's buffer
+-- A block was read into the request's buffer. Where the read failed, the buffer is given back unchanged: a device reads
+-- into a block of its own, and copies what was read whole.
 abbrev pub got : Geometry → Memory → Request → ℕ → Reply → Step
-got g m r b (Gave v) = record { memory = one_more m (record r { op = with_read g.block_size r.op r.done v }); told = Got r.ticket r.done; events = Reads b v ∷ [] }
+got g m r b (Gave v) =
+    record {
+      memory = one_more m (record r { op = with_read g.block_size r.op r.done v });
+      told = Got r.ticket r.done;
+      events = Reads b v ∷ [];
+    }
 got g m r b reply = answered m r (outcomes.DiskFault r.done) []
 
 -- a flush of the disk was made for a request
@@ -269,12 +298,14 @@ above_0 e = if e.first == 0 then record { first = 1; count = e.count - 1 } else 
 -- In Trim what is discarded is free. In Checkpoint a changed block that no unanswered write covers is free again.
 abbrev pub kinds_discarded : Geometry → Memory → Extent → Phase → List Kind
 kinds_discarded g m e Trim = with_kind m.kinds (above_0 e) kinds.Free
-kinds_discarded g m e Checkpoint = reclaimed m.kinds e (open_writes g.blocks (waiting_of m.requests))
+kinds_discarded g m e Checkpoint = reclaimed m.kinds e (open_writes g.blocks m.requests)
 kinds_discarded g m e phase = m.kinds
 
 -- a discard is answered
 abbrev pub discarded : Geometry → Memory → Request → Step
-discarded g m r = answered (record m { kinds = kinds_discarded g m (extent_of r.op) m.phase }) r outcomes.Done (Discards (extent_of r.op) ∷ [])
+discarded g m r =
+    answered (record m { kinds = kinds_discarded g m (extent_of r.op) m.phase }) r outcomes.Done
+    (Discards (extent_of r.op) ∷ [])
 
 -- a write that the disk failed is answered with the number of its blocks that were done
 abbrev pub fault_after : Request → Outcome
@@ -282,7 +313,9 @@ fault_after r = outcomes.DiskFault r.done
 
 -- an act of a batch: where it failed, the write for which the batch was formed is answered
 abbrev pub batch_step : Geometry → Memory → Batch → Reply → Step
-batch_step g m b Failed = answered_for (batch_after m b Failed (after_act b.progress false)) (request_of b.ticket m.requests) fault_after (fault_events g)
+batch_step g m b Failed =
+    answered_for (batch_after m b Failed (after_act b.progress false)) (request_of b.ticket m.requests) fault_after
+    (fault_events g)
 batch_step g m b reply = moved (batch_after m b reply (after_act b.progress true)) []
 
 -- the events of an act of a prepare: arming, once its copies are durable, and the end
@@ -293,8 +326,11 @@ prepare_events now act = []
 
 -- an act of a prepare: where it failed, the prepare is answered with a fault; its last act answers it
 abbrev pub prepare_step : Contents → Memory → Ticket → ℕ → ℕ → PrepareAct → Reply → Step
-prepare_step now m t c b act Failed = answered_for (record m { hand = Empty }) (request_of t m.requests) (λ r. outcomes.DiskFault 0) (λ r. [])
-prepare_step now m t c b FlushesFirstLog reply = answered_for (prepare_after m t c b FlushesFirstLog reply) (request_of t m.requests) (λ r. outcomes.Done) (λ r. prepare_events now FlushesFirstLog)
+prepare_step now m t c b act Failed =
+    answered_for (record m { hand = Empty }) (request_of t m.requests) (λ r. outcomes.DiskFault 0) (λ r. [])
+prepare_step now m t c b FlushesFirstLog reply =
+    answered_for (prepare_after m t c b FlushesFirstLog reply) (request_of t m.requests) (λ r. outcomes.Done)
+    (λ r. prepare_events now FlushesFirstLog)
 prepare_step now m t c b act reply = moved (prepare_after m t c b act reply) (prepare_events now act)
 
 -- the deciding write decides, also where it failed; one that was made before has decided already
@@ -309,8 +345,12 @@ committing_events true = Flushes ∷ Commits ∷ []
 
 -- an act of a commit: where it failed, the commit is answered with a fault; its last act answers it
 abbrev pub commit_step : Memory → Ticket → Bool → CommitAct → Reply → Step
-commit_step m t again act Failed = answered_for (commit_failed m act) (request_of t m.requests) (λ r. outcomes.DiskFault 0) (λ r. deciding_events again act)
-commit_step m t again FlushesDecision reply = answered_for (commit_after m t again FlushesDecision reply) (request_of t m.requests) (λ r. outcomes.Done) (λ r. committing_events again)
+commit_step m t again act Failed =
+    answered_for (commit_failed m act) (request_of t m.requests) (λ r. outcomes.DiskFault 0)
+    (λ r. deciding_events again act)
+commit_step m t again FlushesDecision reply =
+    answered_for (commit_after m t again FlushesDecision reply) (request_of t m.requests) (λ r. outcomes.Done)
+    (λ r. committing_events again)
 commit_step m t again act reply = moved (commit_after m t again act reply) (deciding_events again act)
 
 -- the next act of what is in hand

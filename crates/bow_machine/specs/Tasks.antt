@@ -15,10 +15,11 @@ use Rattle.bow_log.specs.Spelling.{spell}
 use Rattle.bow_copy.specs.declared.jobs.Job.{Job}
 use Rattle.bow_copy.specs.declared.jobs.Job.TheVariants as jobs
 use Rattle.bow_queue.specs.declared.tickets.Ticket.{Ticket}
-use Rattle.bow_queue.specs.Requests.{waits_on, is_command}
+use Rattle.bow_queue.specs.Requests.{waits_on}
+pub use Rattle.bow_queue.specs.Requests.{first_of}
 use Rattle.bow_ranges.specs.Kinds.{kind_at, with_kind, is_free, count_of}
 use Rattle.bow_ranges.specs.Picks.{picked}
-use Rattle.bow_machine.specs.Requests.{Request, waiting_of, request_of, refusal}
+use Rattle.bow_machine.specs.Requests.{Request, request_of, refusal}
 use Rattle.bow_machine.specs.Memory.{Memory, Batch, Hand, Empty, Batching, Preparing, Committing, ReadsBlock0, WritesFirstLog, FlushesAll, has_command, is_direct, is_kind_current}
 
 -- whose turn it is: a request's, the worker's, or that of the commands
@@ -47,13 +48,17 @@ unless_command m task = if has_command m.hand then Waits else task
 
 -- an unanswered write of a smaller serial number overlaps the write
 abbrev pub is_waiting : Memory → Request → Bool
-is_waiting m r = not (is_none (waits_on r.ticket (waiting_of m.requests)))
+is_waiting m r = not (is_none (waits_on r.ticket m.requests))
 
--- A read is always ready. A write waits for the earlier ones that it overlaps, and for the worker where it is not direct.
+-- A read is always ready. A write waits for the earlier ones that it overlaps, and for the worker where it is not
+-- direct.
 abbrev pub task_for : Geometry → Memory → Request → Op → Task
-task_for g m r (Read e p) = unless_refused r (refusal g m.phase (Read e p)) (if r.done == e.count then Answers r outcomes.Data else ReadsBlock r (e.first + r.done))
+task_for g m r (Read e p) =
+    unless_refused r (refusal g m.phase (Read e p))
+    (if r.done == e.count then Answers r outcomes.Data else ReadsBlock r (e.first + r.done))
 task_for g m r (Write e p) = unless_command m (unless_refused r (refusal g m.phase (Write e p))
-    (if is_waiting m r then Waits else if r.done == e.count then Answers r outcomes.Done else if is_direct m m.phase (e.first + r.done) then WritesBlock r (e.first + r.done) else Waits))
+    (if is_waiting m r then Waits else if r.done == e.count then Answers r outcomes.Done
+    else if is_direct m m.phase (e.first + r.done) then WritesBlock r (e.first + r.done) else Waits))
 task_for g m r (Discard e) = unless_command m (unless_refused r (refusal g m.phase (Discard e)) (DiscardsFor r))
 task_for g m r Flush = unless_command m (unless_refused r (refusal g m.phase Flush) (FlushesFor r))
 task_for g m r Prepare = Waits
@@ -66,7 +71,9 @@ map_task g m (Some r) = task_for g m r r.op
 
 -- The write needs the worker: it passed the tests, waits on no other, and its next block is not direct.
 abbrev pub needs_worker : Geometry → Memory → Request → Op → Bool
-needs_worker g m r (Write e p) = is_none (refusal g m.phase (Write e p)) && not (is_waiting m r) && nat_lt r.done e.count && not (is_direct m m.phase (e.first + r.done))
+needs_worker g m r (Write e p) =
+    is_none (refusal g m.phase (Write e p)) && not (is_waiting m r) && nat_lt r.done e.count
+    && not (is_direct m m.phase (e.first + r.done))
 needs_worker g m r (Read e p) = false
 needs_worker g m r (Discard e) = false
 needs_worker g m r Flush = false
@@ -83,7 +90,8 @@ spelling g log = spell (fields_of g log)
 
 -- a batch for a write, at its first act
 abbrev pub batch_for : Request → Job → List (List ℕ) → Batch
-batch_for r job slots = record { progress = record { job = job; done = 0; failed = false }; slots = slots; ticket = r.ticket }
+batch_for r job slots =
+    record { progress = record { job = job; done = 0; failed = false }; slots = slots; ticket = r.ticket }
 
 -- the memory with this batch in hand
 abbrev pub with_batch : Memory → Batch → Memory
@@ -103,24 +111,33 @@ is_source kind other = false
 -- how many blocks from this one on have the kind of a source, and the same one: so many at most
 abbrev pub alike_from : List Kind → Kind → ℕ → ℕ → ℕ
 alike_from table kind first zero = 0
-alike_from table kind first (suc most) = if is_source kind (kind_at table first) then suc (alike_from table kind (suc first) most) else 0
+alike_from table kind first (suc most) =
+    if is_source kind (kind_at table first) then suc (alike_from table kind (suc first) most) else 0
 
 -- the blocks that a copy for this write backs up: from its next block on, of one kind, at most eight
 abbrev pub copied_from : Memory → Request → Extent → Extent
-copied_from m r e = record { first = e.first + r.done; count = alike_from m.kinds (kind_at m.kinds (e.first + r.done)) (e.first + r.done) (min 8 (e.count - r.done)) }
+copied_from m r e =
+    record {
+      first = e.first + r.done;
+      count =
+          alike_from m.kinds (kind_at m.kinds (e.first + r.done)) (e.first + r.done) (min 8 (e.count - r.done));
+    }
 
 -- a copy of as many blocks as were picked
 abbrev pub copy_onto : Extent → Extent → Job
 copy_onto source dest = jobs.Copy source.first dest.first dest.count
 
--- The batch for a head: the first rule that applies. The log is written again where it is not clean; the current block 0
--- is moved where the head writes its place; the log is linked where it is full; else blocks are copied.
+-- The batch for a head: the first rule that applies. The log is written again where it is not clean; the current block
+-- 0 is moved where the head writes its place; the log is linked where it is full; else blocks are copied.
 abbrev pub formed : Geometry → Memory → Request → Extent → Generation → Task
 formed g m r e log =
     if not m.clean then Acts (with_batch m (batch_for r jobs.Rewrite []))
-    else if is_kind_current (kind_at m.kinds (e.first + r.done)) then on_picked m r (λ to. batch_for r (jobs.Move (e.first + r.done) to.first) []) (picked m.kinds 1)
-    else if length log.entries == room g.block_size then on_picked m r (λ dest. batch_for r (jobs.Link dest.first) (spelling g log ∷ [])) (picked m.kinds 1)
-    else on_picked m r (λ dest. batch_for r (copy_onto (copied_from m r e) dest) []) (picked m.kinds (copied_from m r e).count)
+    else if is_kind_current (kind_at m.kinds (e.first + r.done)) then
+    on_picked m r (λ to. batch_for r (jobs.Move (e.first + r.done) to.first) []) (picked m.kinds 1)
+    else if length log.entries == room g.block_size then
+    on_picked m r (λ dest. batch_for r (jobs.Link dest.first) (spelling g log ∷ [])) (picked m.kinds 1)
+    else on_picked m r (λ dest. batch_for r (copy_onto (copied_from m r e) dest) [])
+    (picked m.kinds (copied_from m r e).count)
 
 -- the batch for a head, which is a write, in Checkpoint, where there is a log
 abbrev pub formed_for : Geometry → Memory → Request → Op → Option Generation → Task
@@ -151,15 +168,13 @@ without_picked table (Some c) = with_kind table c kinds.Backup
 -- A command is taken in hand, or has no place in this phase. A prepare in Trim needs two free blocks; in Arming it
 -- repeats the log write and the flush. In Deciding a commit repeats all its calls.
 abbrev pub taken : Memory → Request → Op → Phase → Task
-taken m r Prepare Trim = if nat_lt (count_of is_free m.kinds) 2 then Answers r (outcomes.NoSpace 0) else prepare_on m r (picked m.kinds 1) (picked (without_picked m.kinds (picked m.kinds 1)) 1)
+taken m r Prepare Trim =
+    if nat_lt (count_of is_free m.kinds) 2 then Answers r (outcomes.NoSpace 0)
+    else prepare_on m r (picked m.kinds 1) (picked (without_picked m.kinds (picked m.kinds 1)) 1)
 taken m r Prepare Arming = Acts (record m { hand = Preparing r.ticket 0 0 WritesFirstLog })
 taken m r Commit Checkpoint = Acts (record m { hand = Committing r.ticket false FlushesAll })
 taken m r Commit Deciding = Acts (record m { hand = Committing r.ticket true FlushesAll })
 taken m r op phase = Answers r (outcomes.WrongPhase phase)
-
--- the command of the smallest serial number
-abbrev pub first_of : List Request → Option Request
-first_of requests = find (λ r. is_command r.op) requests
 
 -- the first command that waits is taken, if there is one
 abbrev pub take_first : Memory → Option Request → Task

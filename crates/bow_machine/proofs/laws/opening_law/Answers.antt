@@ -1,4 +1,4 @@
-use Rattle.bow_machine.proofs.Openings.{opening_stands}
+use Rattle.bow_machine.proofs.Whole.{opening_stands}
 use Rattle.bow_machine.proofs.laws.opening_law.Goals as goal
 
 pub returns : goal.returns

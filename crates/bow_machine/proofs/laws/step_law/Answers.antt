@@ -1,5 +1,4 @@
-use Rattle.bow_machine.proofs.Consequences.{step_cuts}
-use Rattle.bow_machine.proofs.Whole.{step_keeps}
+use Rattle.bow_machine.proofs.Whole.{step_keeps, step_cuts}
 use Rattle.bow_machine.proofs.laws.step_law.Goals as goal
 
 pub returns-clause-keeps : goal.returns-clause-keeps

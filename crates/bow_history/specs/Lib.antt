@@ -1,0 +1,16 @@
+pub mod Journal
+pub mod Sessions
+pub mod Histories
+pub mod Lags
+pub mod Fits
+pub mod Legality
+pub mod Cuts
+pub mod Promises
+pub mod Sections
+pub mod DiskCuts
+pub mod Rows
+pub mod Ready
+pub mod SoundSessions
+pub mod Complete
+pub mod Ends
+pub mod Schedule
