@@ -1,0 +1,10 @@
+pub mod Marks
+pub mod Dests
+pub mod Copies
+pub mod Limits
+pub mod Rewinds
+pub mod Replaying
+pub mod Loops
+pub mod Answers
+pub mod Forwarding
+pub mod Laws
