@@ -1,8 +1,8 @@
 //! The program `bow`: Android's User Data Checkpoint for block devices, over an image in a file.
 //!
 //! `bow IMAGE ATTEMPTS BLOCK play NUMBER` reads a script from standard input, runs its requests over the image, and
-//! writes the transcript to standard output. `bow IMAGE ATTEMPTS BLOCK check` reads the image alone, and writes the lines
-//! of its chain of logs and `sound`, or `no log`, or what is wrong. It ends with the status of `bow_tool::tool`.
+//! writes the transcript to standard output. `bow IMAGE ATTEMPTS BLOCK check` reads the image alone, and writes the
+//! lines of its chain of logs and `sound`, or `no log`, or what is wrong. It ends with the status of `bow_tool::tool`.
 #![tactic(auto)]
 
 use bow_disk::FileDisk;

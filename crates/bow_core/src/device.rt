@@ -1,16 +1,49 @@
-// The device: one place for a request, and one step of it at a time.
-ghost use Rattle.std.specs.Prelude.{◌≡◌, ◌+◌, ◌<◌, ◌≤◌, ◌^◌, ◌↔◌, ℕ, IfOk, IfErr, MatchResult, IsTrue, Some, None};
+// The device.
+ghost use Rattle.std.specs.Prelude.{◌≡◌, ◌+◌, ◌-◌, ◌<◌, ◌≤◌, ◌↔◌, ◌^◌, ◌++◌, ◌∷◌, [], length, IfOk, IfErr, OnOk, Some};
+ghost use Rattle.std.specs.Prelude.{true, false};
 ghost use Rattle.bow_units.specs.Sizes.{IsValid};
+ghost use Rattle.bow_machine.specs.Laws.{opened};
+ghost use Rattle.bow_machine.specs.MemoryIsSound.{IsAdmissible};
+ghost use Rattle.bow_machine.specs.Tasks.{task_of};
+ghost use Rattle.bow_machine.specs.Ready.{is_ready};
+ghost use Rattle.bow_flat.specs.Flat.{Flat};
+ghost use Rattle.bow_machine.specs.Steps.{Idle};
+ghost use Rattle.bow_machine.specs.MemoryLaws.{tells_fault};
+ghost use Rattle.bow_machine.specs.MemoryIsSound.{MemoryIsSound};
 ghost use Rattle.bow_units.specs.Causes.{Rose};
-ghost use Rattle.bow_disk.specs.Disk.{Content, KeepsSizes};
-ghost use Rattle.bow_flat.specs.Flat.{Flat, Allows, after, opening};
-ghost use Rattle.bow_core.specs.Standing.{Stands, StandsFor};
-ghost use Rattle.bow_core.specs.Requests.{IsAdmissible};
+ghost use Rattle.std.specs.Prelude.{option_copied};
+ghost use Rattle.std.specs.Option.{option_map};
+ghost use Rattle.bow_log.specs.Generations.{fields_of};
+ghost use Rattle.bow_machine.specs.Calls.{ReadCall};
+ghost use Rattle.bow_machine.specs.Shown.{status_of, IsShown};
+ghost use Rattle.bow_core.specs.Calls.{read_reply};
+ghost use Rattle.bow_core.specs.Ports.{Makes};
+ghost use Rattle.bow_core.specs.Further.{KeepsOn};
+ghost use Rattle.bow_core.specs.Held.{with_memory};
+ghost use Rattle.bow_core.specs.Openings.{KeepsImage, LeftBy, OpenCause};
+ghost use Rattle.std.specs.Prelude.{MatchResult, slice_index_or};
+ghost use Rattle.bow_disk.specs.Disk.{Content};
+ghost use Rattle.bow_flat.specs.Flat.{opening};
+ghost use Rattle.bow_units.specs.Magics.{IsPlain};
+ghost use Rattle.bow_core.specs.Calls.{Counted};
+ghost use Rattle.bow_core.specs.Standing.{StandsIn, Leads};
+ghost use Rattle.bow_core.specs.Steps.{IsDone, IsStep};
+ghost use Rattle.bow_core.specs.Turns.{turn_of, told_of};
+ghost use Rattle.bow_core.specs.Views.{IsOpened};
 
-use crate::request_steps::{Progress, Waiting, advance};
-use crate::turns::{Step, Ticket, Turn};
+use crate::Ticket;
+use crate::batches::step_worker;
+use crate::commands::step_command;
+use crate::mapping::map_step;
+use crate::ports::Port;
+use crate::slots::read_block;
+use crate::state::State;
+use crate::turns::{Step, Turn};
 use bow_disk::Disk;
-use bow_units::{Geometry, Op, Phase, Status};
+use bow_log::Log;
+use bow_ranges::Ranges;
+use bow_units::{Failed, Geometry, Op, Status, has_magic};
+use std::alloc::Global;
 use std::marker::Model;
 
 /// Why a device could not be opened.
@@ -18,7 +51,7 @@ use std::marker::Model;
 pub enum OpenFault {
     /// The disk states these sizes, which no device has.
     BadGeometry(Geometry),
-    /// Block 0 holds a log: the disk has to be restored first.
+    /// Block 0 begins with a magic: the disk has to be restored first.
     NeedsRestore,
     /// A call on the disk failed.
     DiskFault,
@@ -26,57 +59,84 @@ pub enum OpenFault {
     NoMemory,
 }
 
-/// A device over a disk. It takes requests in and carries them out, step by step, in the order of the turns that it is
-/// given. Contracts see it as its disk, its sizes, its phase, the request that waits, how many requests it has taken in,
-/// and how many calls it has made on the disk.
+/// A device over a disk, with places for 1 to 16 requests. It takes requests in and carries them out, step by step,
+/// in the order of the turns that it is given. Contracts see it as its disk, its sizes and places, the machine's
+/// memory, how many requests it admitted, and how many calls it has made on the disk.
 #[derive(Drop)]
-pub struct Core<D: Disk> {
-    disk: D,
-    geometry: Geometry,
-    phase: Phase,
-    waiting: Option<Waiting>,
+pub struct Core<D: Disk, R: Ranges> {
+    port: Port<D>,
+    state: State<R>,
     admitted: u64,
-    calls: u64,
 }
 
-impl<D: Disk> Model for Core<D> {
-    ghost use Rattle.bow_core.specs.Views.{View};
+impl<D: Disk, R: Ranges> Model for Core<D, R> {
+    ghost use Rattle.bow_core.specs.Views.{View, view_of, IsOpened};
 
     ghost Value = { View D };
 
-    ghost use Rattle.bow_core.specs.Insides.{waiting_of};
-    ghost use Rattle.bow_core.specs.Opened.{IsOpened};
+    ghost view = { λ c. view_of c.port.disk c.state c.admitted c.port.calls };
 
-    ghost view = { λ c. record { disk = c.disk; geometry = c.geometry; phase = c.phase; waiting = waiting_of c.waiting; admitted = c.admitted; calls = c.calls } };
-
-    ghost invariant = { λ c. IsOpened D.stated c };
+    ghost invariant = { λ c. IsOpened D.stated (view_of c.port.disk c.state c.admitted c.port.calls) };
 }
 
-impl<D: Disk> Core<D> {
-    ghost use Rattle.bow_core.specs.Views.{StepGives, step_event, IsReady, IsDiskFault, OpenCause};
-    ghost use Rattle.bow_core.specs.Cuts.{Counted, MomentCounted, CutsGo, AddsNoCut, IsOneCall, calls_of};
-    ghost use Rattle.bow_core.specs.Clauses.{IfIdle, KeepsTelling, HoldsImage, spare_places};
-    ghost use Rattle.bow_units.specs.declared.requests.Phase.TheVariants.{Trim};
+/// Before anything waits the disk is flushed, and block 0 begins with no magic.
+fn settle<D: Disk, R: Ranges>(port: &mut Port<D>, state: &mut State<R>) -> Result<(), OpenFault>
+    requires sizes { D.stated port.old.disk ≡ Some state.old.geometry }
+    requires none { port.old.calls ≡ 0 }
+    ensures state { state.new ≡ state.old }
+    ensures calls { OnOk result (port.new.calls ≡ 2) }
+    ensures left { LeftBy D.stated D.content D.moment D.left_since D.faults state.old.geometry result port.old.disk
+        port.new.disk }
+{
+    let Ok(()) = port.flush() else {
+        return Err(OpenFault::DiskFault);
+    };
+    let Ok(()) = read_block(port, &mut state.block, 0) else {
+        return Err(OpenFault::DiskFault);
+    };
+    if has_magic(&state.block) {
+        return Err(OpenFault::NeedsRestore);
+    }
+    Ok(())
+}
 
-    /// Opens a device on a disk: asks the sizes and flushes. The device is then in phase `Trim`, no request waits, and it
-    /// stands for the opening state of the disk's image. The image is unchanged, and what a cut leaves meanwhile it might
-    /// have left before; on an error the disk is handed back so,
-    /// after one call of it at most:
-    /// `BadGeometry` comes exactly where the disk states sizes that are not valid, `DiskFault` only where its count of
-    /// faults rose in this call, `NeedsRestore` never.
-    pub fn open(mut disk: D) -> Result<Core<D>, (OpenFault, D)>
-        ensures sizes { IfOk result (λ core. D.stated core.disk ≡ Some core.geometry) }
+/// The step of a turn.
+fn step_turn<D: Disk, R: Ranges>(port: &mut Port<D>, state: &mut State<R>, turn: Turn) -> Step
+    requires sizes { D.stated port.old.disk ≡ Some state.old.geometry }
+    requires sound { MemoryIsSound state.old.geometry state.old.memory }
+    ensures done { IsDone D.stated D.content D.moment D.left_since D.faults state.old.geometry state.old.memory
+        (task_of state.old.geometry state.old.memory (turn_of turn)) result state.new.memory port.old.disk
+        port.new.disk port.old.calls port.new.calls }
+    ensures kept { state.new ≡ with_memory state.old state.new.memory }
+{
+    match turn {
+        Turn::Map(ticket) => map_step(port, state, ticket),
+        Turn::Worker => step_worker(port, state),
+        Turn::Command => step_command(port, state),
+    }
+}
+
+impl<D: Disk, R: Ranges + Drop> Core<D, R> {
+    /// Opens a device of 1 to 16 places on a disk: asks the sizes, takes all memory, flushes, and reads block 0. The
+    /// device is then in phase `Trim`, no request waits, and it stands for the opening state of the disk's image, of
+    /// which block 0 begins with no magic. The image is unchanged, and what a cut leaves meanwhile it might have left
+    /// before; on an error the disk is handed back so: `BadGeometry` comes exactly where the disk states sizes that
+    /// are not valid, before any read, write or flush; `NeedsRestore` exactly where block 0 begins with a magic;
+    /// `DiskFault` only where its count of faults rose in this call, and then its sizes are valid or nothing was
+    /// read, written or flushed.
+    pub fn open(alloc: Global, mut disk: D, places: u32) -> Result<Core<D, R>, (OpenFault, D)>
+        requires few { places ≤ 16 }
         ensures valid { IfOk result (λ core. IsValid core.geometry) }
-        ensures fresh { IfOk result (λ core. (core.phase ≡ Trim) × (core.waiting ≡ None) × (core.admitted ≡ 0) × (core.calls ≡ 1)) }
-        ensures state { (c : Content) → D.content disk ≡ Some c → IfOk result (λ core. StandsFor core.phase core.geometry.blocks (D.content core.disk) (opening c.now)) }
-        ensures moment { IfOk result (λ core. MomentCounted 1 (D.content core.disk) (D.moment disk) (D.moment core.disk)) }
-        ensures cuts { MatchResult result (λ core. AddsNoCut (D.content disk) (D.moment disk) (D.left_since disk) (D.left_since core.disk)) (λ e. AddsNoCut (D.content disk) (D.moment disk) (D.left_since disk) (D.left_since e.1)) }
-        ensures few { IfErr result (λ e. IsOneCall (D.content e.1) (D.moment disk) (D.moment e.1)) }
-        ensures unchanged { (c : Content) → D.content disk ≡ Some c → MatchResult result (λ core. HoldsImage c.now (D.content core.disk)) (λ e. HoldsImage c.now (D.content e.1)) }
-        ensures cause { IfErr result (λ e. OpenCause (D.stated e.1) (D.faults disk) (D.faults e.1) e.0) }
-        ensures kept { MatchResult result (λ core. KeepsSizes (D.stated disk) (D.stated core.disk)) (λ e. KeepsSizes (D.stated disk) (D.stated e.1)) }
-        ensures tells { MatchResult result (λ core. KeepsTelling (D.content disk) (D.content core.disk)) (λ e. KeepsTelling (D.content disk) (D.content e.1)) }
-        ensures faults { MatchResult result (λ core. D.faults disk ≤ D.faults core.disk) (λ e. D.faults disk ≤ D.faults e.1) }
+        ensures opened { IfOk result (λ core. IsOpened D.stated core) }
+        ensures fresh { IfOk result (λ core. (core.memory ≡ opened core.geometry.blocks) × (core.places ≡ places) ×
+            (core.admitted ≡ 0) × (core.calls ≡ 2)) }
+        ensures kept { MatchResult result (λ core. KeepsImage D.stated D.content D.moment D.left_since D.faults disk
+            core.disk) (λ e. KeepsImage D.stated D.content D.moment D.left_since D.faults disk e.1) }
+        ensures stands { (c : Content) → D.content disk ≡ Some c → IfOk result (λ core. IsPlain (slice_index_or c.now 0
+            []) × StandsIn D.content core (opening c.now)) }
+        ensures clock { (c : Content) → D.content disk ≡ Some c → MatchResult result (λ core. Counted 2 (D.moment disk)
+            (D.moment core.disk)) (λ e. D.moment e.1 ≤ D.moment disk + 2) }
+        ensures cause { IfErr result (λ e. OpenCause D.stated D.content D.moment D.faults disk e.1 e.0) }
     {
         let Ok(geometry) = disk.sizes() else {
             return Err((OpenFault::DiskFault, disk));
@@ -84,36 +144,36 @@ impl<D: Disk> Core<D> {
         if !geometry.valid() {
             return Err((OpenFault::BadGeometry(geometry), disk));
         }
-        match disk.flush() {
+        let Ok(mut state) = State::open(alloc, geometry, places) else {
+            return Err((OpenFault::NoMemory, disk));
+        };
+        let mut port = Port { disk, calls: 0 };
+        match settle(&mut port, &mut state) {
             Ok(()) => Ok(Core {
-                disk,
-                geometry,
-                phase: Phase::Trim,
-                waiting: None,
+                port,
+                state,
                 admitted: 0,
-                calls: 1,
             }),
-            Err(_) => Err((OpenFault::DiskFault, disk)),
+            Err(fault) => {
+                let Port { disk, .. } = port;
+                Err((fault, disk))
+            }
         }
     }
 
-    /// The sizes with which the device was opened. They are those that its disk states.
+    /// The sizes with which it was opened. They are those that its disk states.
     pub fn geometry(&self) -> Geometry
         ensures is { result ≡ self.now.geometry }
-        ensures valid { IsValid result }
-        ensures stated { D.stated self.now.disk ≡ Some result }
+        ensures opened { IsOpened D.stated self.now }
     {
-        self.geometry
+        self.state.geometry
     }
 
     /// How many more requests it can take in now.
     pub fn spare(&self) -> u32
-        ensures { result ≡ spare_places self.now.waiting }
+        ensures { result + length self.now.memory.requests ≡ self.now.places }
     {
-        match self.waiting {
-            Some(_) => 0,
-            None => 1,
-        }
+        self.state.spare()
     }
 
     /// How many requests it has taken in.
@@ -128,117 +188,106 @@ impl<D: Disk> Core<D> {
     pub fn calls(&self) -> u64
         ensures { result ≡ self.now.calls }
     {
-        self.calls
+        self.port.calls
     }
 
-    /// The phase and the counts of free blocks, logs and entries, which are 0 in `Trim` where nothing was discarded.
+    /// The phase, how many blocks are free, and the sequence number and the entries of the log in memory, which are 0
+    /// in `Trim` and `Committed`; in `Committed` none is free.
     pub fn status(&self) -> Status
-        ensures { result ≡ record { phase = self.now.phase; free = 0; sequence = 0; entries = 0 } }
+        ensures is { result ≡ status_of self.now.memory }
+        ensures shown { IsShown self.now.geometry result }
     {
-        Status {
-            phase: self.phase,
-            free: 0,
-            sequence: 0,
-            entries: 0,
-        }
+        self.state.status()
     }
 
-    /// Whether a turn makes a step: that of the request that waits does.
-    pub fn ready(&self, turn: Turn) -> bool
-        ensures { IsTrue result ↔ IsReady self.now.waiting turn }
+    /// The log in memory. There is none exactly in `Trim` and `Committed`.
+    pub fn log(&self) -> Option<&Log>
+        ensures { option_copied result ≡ option_map (fields_of self.now.geometry) self.now.memory.log }
     {
-        match (&self.waiting, turn) {
-            (Some(waiting), Turn::Map(ticket)) => waiting.ticket == ticket,
-            _ => false,
-        }
+        self.state.log()
     }
 
-    /// Takes a request in: a read or a write of 1 to 16 blocks, with a buffer of that many blocks' bytes. It waits under
-    /// the ticket until a step answers it. There is a spare place, and fewer than 2^64 - 1 requests were taken in before.
+    /// One read of block `at`, beside the device, into a buffer of one block: all else stays. `Failed` comes only where
+    /// the disk's count of faults rose in this call.
+    pub fn raw(&mut self, at: u64, into: &mut [u8]) -> Result<(), Failed>
+        requires on { at < self.old.geometry.blocks }
+        requires one { length into.old ≡ self.old.geometry.block_size }
+        ensures made { Makes D.stated D.content D.moment D.left_since D.faults self.old.geometry (Some (ReadCall at))
+            (read_reply result into.new) self.old.disk self.new.disk self.old.calls self.new.calls }
+        ensures kept { self.new ≡ record self.old { disk = self.new.disk; calls = self.new.calls } }
+        ensures opened { IsOpened D.stated self.new }
+    {
+        self.port.read(at, into)
+    }
+
+    /// The disk.
+    pub fn disk(&self) -> &D
+        ensures { result.now ≡ self.now.disk }
+    {
+        &self.port.disk
+    }
+
+    /// Takes a request in: a read or a write has 1 to 16 blocks and a buffer of that many. It waits under the ticket
+    /// until a step answers it. There is a spare place, and fewer than 2^64 - 1 requests were admitted before.
     pub fn admit(&mut self, op: Op) -> Ticket
-        requires place { self.old.waiting ≡ None }
-        requires number { self.old.admitted + 1 < 2 ^ 64 }
+        requires place { length self.old.memory.requests < self.old.places }
+        requires number { self.old.admitted < 2 ^ 64 - 1 }
         requires whole { IsAdmissible self.old.geometry op }
-        ensures waits { self.new.waiting ≡ Some (record { ticket = result; op = op; done = 0 }) }
         ensures serial { result.serial ≡ self.old.admitted }
-        ensures admitted { self.new.admitted ≡ self.old.admitted + 1 }
-        ensures disk { self.new.disk ≡ self.old.disk }
-        ensures geometry { self.new.geometry ≡ self.old.geometry }
-        ensures phase { self.new.phase ≡ self.old.phase }
-        ensures calls { self.new.calls ≡ self.old.calls }
+        ensures waits { self.new ≡ record self.old {
+          memory = record self.old.memory {
+            requests =
+                self.old.memory.requests ++ record { ticket = result; op = op; done = 0 } ∷ [];
+          };
+          admitted =
+              self.old.admitted + 1;
+        } }
+        ensures opened { IsOpened D.stated self.new }
     {
         let ticket = Ticket {
             key: 0,
             serial: self.admitted,
         };
         self.admitted += 1;
-        self.waiting = Some(Waiting {
-            ticket,
-            op,
-            done: 0,
-        });
+        self.state.admit(ticket, op);
         ticket
     }
 
-    /// One step, with at most one call on the disk. It is `Idle` exactly where the turn is not ready, and then nothing
-    /// changes. Else a block of the request is done, in rising order, or it is answered:
-    ///
-    /// - `OutOfRange` exactly where its extent is not on the device;
-    /// - `ReservedMagic` exactly where a write that is on the device begins at block 0 with one of the two magic numbers;
-    /// - `DiskFault`, with the number of blocks done, only where the disk's count of faults rose in this step. A block
-    ///   whose write failed reads as its old content or its new one, and from then on as the one that was read;
-    /// - `Done` or `Data` after the last block.
-    pub fn step(&mut self, turn: Turn) -> Step
-        ensures gives { StepGives self.old.geometry self.old.waiting turn result self.new.waiting }
-        ensures idle { IfIdle result (self.new ≡ self.old) }
-        ensures geometry { self.new.geometry ≡ self.old.geometry }
-        ensures trim { self.old.phase ≡ Trim }
-        ensures phase { self.new.phase ≡ self.old.phase }
-        ensures admitted { self.new.admitted ≡ self.old.admitted }
-        ensures sizes { D.stated self.new.disk ≡ Some self.new.geometry }
-        ensures event { (f : Flat) → StandsFor self.old.phase self.old.geometry.blocks (D.content self.old.disk) f →
-            let event = step_event self.old.geometry.block_size self.old.waiting result self.new.waiting in
-            Allows self.old.geometry.blocks event f × StandsFor self.new.phase self.old.geometry.blocks (D.content self.new.disk) (after self.old.geometry.blocks event f) }
-        ensures cuts { (f : Flat) → StandsFor self.old.phase self.old.geometry.blocks (D.content self.old.disk) f →
-            let event = step_event self.old.geometry.block_size self.old.waiting result self.new.waiting in
-            CutsGo (D.moment self.old.disk) (D.moment self.new.disk) (D.left_since self.old.disk) (D.left_since self.new.disk) (Stands self.old.geometry.blocks (after self.old.geometry.blocks event f)) }
-        ensures tells { KeepsTelling (D.content self.old.disk) (D.content self.new.disk) }
-        ensures calls { Counted (calls_of result) self.old.calls self.new.calls }
-        ensures moment { MomentCounted (calls_of result) (D.content self.new.disk) (D.moment self.old.disk) (D.moment self.new.disk) }
-        ensures faults { D.faults self.old.disk ≤ D.faults self.new.disk }
-        ensures cause { IsDiskFault result → Rose (D.faults self.old.disk) (D.faults self.new.disk) }
+    /// Whether a turn makes a step: by the table of readiness.
+    pub fn ready(&self, turn: Turn) -> bool
+        ensures { result ≡ is_ready self.now.geometry self.now.memory (turn_of turn) }
     {
-        let Some(mut waiting) = self.waiting.take() else {
-            return Step::Idle;
-        };
-        let ticket = waiting.ticket;
-        if turn != Turn::Map(ticket) {
-            self.waiting = Some(waiting);
-            return Step::Idle;
-        }
-        match advance(&mut self.disk, &mut self.calls, self.geometry, &mut waiting) {
-            Progress::Wrote(index) => {
-                self.waiting = Some(waiting);
-                Step::Wrote { ticket, index }
-            }
-            Progress::Got(index) => {
-                self.waiting = Some(waiting);
-                Step::Got { ticket, index }
-            }
-            Progress::Finished(outcome) => Step::Answered {
-                ticket,
-                op: waiting.op,
-                outcome,
-            },
-        }
+        self.state.is_ready(turn)
     }
 
-    /// Gives the disk back, without a call on it. A request that waits is dropped.
+    /// One step, with at most one call on the disk: one step of the machine. It is `Idle` exactly where the table of
+    /// readiness says that the turn is not ready, and then nothing changes. A request is answered `DiskFault` only
+    /// where the disk's count of faults rose in this step. The step leads from each flat state for which the device
+    /// stood to one for which it stands, by events that may be, and what a cut leaves meanwhile was left before or
+    /// stands for it.
+    pub fn step(&mut self, turn: Turn) -> Step
+        ensures step { IsStep D.stated D.content D.moment D.left_since D.faults self.old turn result self.new }
+        ensures idle { (told_of result ≡ Idle) ↔ (is_ready self.old.geometry self.old.memory (turn_of turn) ≡ false) }
+        ensures still { told_of result ≡ Idle → self.new ≡ self.old }
+        ensures cause { tells_fault (told_of result) ≡ true → Rose (D.faults self.old.disk) (D.faults self.new.disk) }
+        ensures faults { D.faults self.old.disk ≤ D.faults self.new.disk }
+        ensures calls { (self.old.calls ≤ self.new.calls) × (self.new.calls ≤ self.old.calls + 1) }
+        ensures opened { IsOpened D.stated self.new }
+        ensures leads { (f : Flat) → StandsIn D.content self.old f → Leads D.content D.moment D.left_since self.old
+            turn result self.new f }
+        ensures further { (f : Flat) → StandsIn D.content self.old f → KeepsOn D.content D.faults self.old turn result
+            self.new f }
+    {
+        step_turn(&mut self.port, &mut self.state, turn)
+    }
+
+    /// Gives the disk back, without a call on it. Requests that wait are dropped.
     pub fn close(self) -> D
         ensures same { result ≡ self.disk }
         ensures sizes { D.stated result ≡ Some self.geometry }
     {
-        let Core { disk, .. } = self;
+        let Core { port, .. } = self;
+        let Port { disk, .. } = port;
         disk
     }
 }

@@ -1,14 +1,23 @@
-//! The device: it takes a request in, and carries it out step by step with at most one call on its disk in each. What a
-//! user may believe of it is a flat state, which each step changes by one event; what a cut leaves of the disk always
-//! stands for that state.
+//! The device: it takes requests in, and carries them out step by step with at most one call on its disk in each.
+//! Contracts see what it keeps as the machine's memory, and a step as one step of the machine.
 #![tactic(auto)]
 
+mod batches;
+mod commands;
 mod device;
-mod request_steps;
+mod hands;
+mod mapping;
+mod ports;
+mod requests;
+mod slots;
+mod state;
+mod tasks;
 mod turns;
+mod workers;
 
+pub use bow_queue::Ticket;
 pub use device::{Core, OpenFault};
-pub use turns::{Step, Ticket, Turn};
+pub use turns::{Step, Turn};
 
 #[cfg(test)]
 mod tests;

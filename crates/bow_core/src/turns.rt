@@ -1,23 +1,15 @@
 // Whose step comes next, and what it did.
+use crate::Ticket;
 use bow_units::{Op, Outcome};
 
-/// Names a request from when it is taken in until it is answered.
-#[derive(Clone, Copy, Debug, PartialEq, Eq)]
-pub struct Ticket {
-    /// The place in which the request waits.
-    pub key: u32,
-    /// How many requests were taken in before it.
-    pub serial: u64,
-}
-
-/// Whose step comes next.
+/// Whose turn it is.
 #[derive(Clone, Copy, Debug, PartialEq, Eq)]
 pub enum Turn {
-    /// A step of this request.
+    /// The request of this ticket.
     Map(Ticket),
-    /// A step of what the device does on its own account.
+    /// The worker, which makes batches for the writes that need it.
     Worker,
-    /// A step of a prepare or a commit.
+    /// The prepare or commit in hand, or the first one that waits.
     Command,
 }
 

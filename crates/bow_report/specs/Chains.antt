@@ -15,8 +15,9 @@ use Rattle.bow_chain.specs.declared.faults.ChainFault.TheVariants as chains
 -- the eight lower-case hexadecimal digits of a sum, the highest first
 unfoldable pub sum_text : ℕ → List ℕ
 sum_text sum =
-    hex_digit (sum / 0x10000000 % 16) ∷ hex_digit (sum / 0x1000000 % 16) ∷ hex_digit (sum / 0x100000 % 16) ∷ hex_digit (sum / 0x10000 % 16)
-    ∷ hex_digit (sum / 0x1000 % 16) ∷ hex_digit (sum / 0x100 % 16) ∷ hex_digit (sum / 0x10 % 16) ∷ hex_digit (sum % 16) ∷ []
+    hex_digit (sum / 0x10000000 % 16) ∷ hex_digit (sum / 0x1000000 % 16) ∷ hex_digit (sum / 0x100000 % 16)
+    ∷ hex_digit (sum / 0x10000 % 16) ∷ hex_digit (sum / 0x1000 % 16) ∷ hex_digit (sum / 0x100 % 16)
+    ∷ hex_digit (sum / 0x10 % 16) ∷ hex_digit (sum % 16) ∷ []
 
 -- a magic as a line has it
 abbrev pub magic_text : Magic → List ℕ
@@ -25,14 +26,16 @@ magic_text Restoring = codes "restoring"
 
 -- the line of a log with so many entries, with its line feed
 unfoldable pub generation_text : ℕ → Magic → ℕ → ℕ → List ℕ
-generation_text sequence magic sector0 entries = codes "generation " ++ decimal sequence ++ codes " magic " ++ magic_text magic ++ codes " sector0 " ++ decimal sector0 ++ codes " entries " ++ decimal entries ++ codes "\n"
+generation_text sequence magic sector0 entries = codes "generation " ++ decimal sequence ++ codes " magic "
+    ++ magic_text magic ++ codes " sector0 " ++ decimal sector0 ++ codes " entries " ++ decimal entries ++ codes "\n"
 
 abbrev pub generation_line : Fields → List ℕ
 generation_line log = generation_text log.sequence log.magic log.sector0 (length log.entries)
 
 -- an entry as its line has it
 unfoldable pub entry_text : Entry → List ℕ
-entry_text e = codes "source " ++ decimal e.source ++ codes " dest " ++ decimal e.dest ++ codes " size " ++ decimal e.size ++ codes " sum " ++ sum_text e.sum
+entry_text e = codes "source " ++ decimal e.source ++ codes " dest " ++ decimal e.dest ++ codes " size "
+    ++ decimal e.size ++ codes " sum " ++ sum_text e.sum
 
 -- the line of the entry of this index
 abbrev pub entry_line : ℕ → Entry → List ℕ
@@ -61,8 +64,11 @@ log_fault_text (logs.Entry index) = codes "entry " ++ decimal index
 -- why no chain was loaded
 abbrev pub chain_fault_text : ChainFault → List ℕ
 chain_fault_text chains.NoLog = codes "no log"
-chain_fault_text (chains.BadLog depth fault) = codes "bad chain: depth " ++ decimal depth ++ codes " log " ++ log_fault_text fault
-chain_fault_text (chains.BadSequence depth found wanted) = codes "bad chain: depth " ++ decimal depth ++ codes " sequence " ++ decimal found ++ codes " wanted " ++ decimal wanted
-chain_fault_text (chains.BadSum depth index found stated) = codes "bad chain: depth " ++ decimal depth ++ codes " entry " ++ decimal index ++ codes " sum " ++ sum_text found ++ codes " stated " ++ sum_text stated
+chain_fault_text (chains.BadLog depth fault) = codes "bad chain: depth " ++ decimal depth ++ codes " log "
+    ++ log_fault_text fault
+chain_fault_text (chains.BadSequence depth found wanted) = codes "bad chain: depth " ++ decimal depth
+    ++ codes " sequence " ++ decimal found ++ codes " wanted " ++ decimal wanted
+chain_fault_text (chains.BadSum depth index found stated) = codes "bad chain: depth " ++ decimal depth
+    ++ codes " entry " ++ decimal index ++ codes " sum " ++ sum_text found ++ codes " stated " ++ sum_text stated
 chain_fault_text chains.DiskFault = codes "disk fault"
 chain_fault_text chains.NoMemory = codes "no memory"

@@ -7,10 +7,10 @@ use Rattle.bow_units.specs.declared.requests.Outcome.TheVariants as outcomes
 use Rattle.bow_units.specs.declared.requests.Phase.{Phase}
 use Rattle.bow_units.specs.declared.requests.Phase.TheVariants.{Trim, Arming, Checkpoint, Deciding, Committed}
 use Rattle.bow_units.specs.Contents.{content_text}
-use Rattle.bow_session.specs.declared.journals.Item.{Item}
-use Rattle.bow_session.specs.declared.journals.Item.TheVariants.{Wrote, Got, Answered}
-use Rattle.bow_session.specs.Contents.{content_in}
-use Rattle.bow_session.specs.Journal.{Asked}
+use Rattle.bow_plain_session.specs.declared.journals.Item.{Item}
+use Rattle.bow_plain_session.specs.declared.journals.Item.TheVariants.{Wrote, Got, Answered}
+use Rattle.bow_plain_session.specs.Contents.{content_in}
+use Rattle.bow_plain_session.specs.Journal.{Asked}
 
 -- a phase as a line has it
 abbrev pub phase_text : Phase → List ℕ
@@ -33,9 +33,12 @@ outcome_text (outcomes.Unsettled phase) = codes "unsettled " ++ phase_text phase
 
 -- the line of an item, with its line feed; the content is that of the block that was read
 abbrev pub item_line : Item → List ℕ → List ℕ
-item_line (Wrote lane number block) content = decimal lane ++ codes "." ++ decimal number ++ codes " wrote " ++ decimal block ++ codes "\n"
-item_line (Got lane number block) content = decimal lane ++ codes "." ++ decimal number ++ codes " got " ++ decimal block ++ codes " " ++ content_text content ++ codes "\n"
-item_line (Answered lane number outcome) content = decimal lane ++ codes "." ++ decimal number ++ codes " " ++ outcome_text outcome ++ codes "\n"
+item_line (Wrote lane number block) content = decimal lane ++ codes "." ++ decimal number ++ codes " wrote "
+    ++ decimal block ++ codes "\n"
+item_line (Got lane number block) content = decimal lane ++ codes "." ++ decimal number ++ codes " got "
+    ++ decimal block ++ codes " " ++ content_text content ++ codes "\n"
+item_line (Answered lane number outcome) content = decimal lane ++ codes "." ++ decimal number ++ codes " "
+    ++ outcome_text outcome ++ codes "\n"
 
 -- one line for each item, in order
 abbrev pub transcript_text : Asked → List Item → List ℕ

@@ -1,40 +1,14 @@
 // The lines of a chain of logs, and of what is wrong with one.
 ghost use Rattle.std.specs.Prelude.{◌≡◌, ◌<◌, ◌++◌, ◌∷◌, [], map, IfOk, OnOk};
 ghost use Rattle.std.specs.String.{string_bytes};
-ghost use Rattle.bow_units.specs.Contents.{hex_digit};
 ghost use Rattle.bow_log.specs.Generations.{fields_of};
 ghost use Rattle.bow_report.specs.Chains.{chain_text, entry_line, entry_lines, generation_line};
 
 use bow_chain::{Chain, ChainFault};
 use bow_log::{Entry, Log, LogFault, Magic};
-use bow_units::NoMemory;
+use bow_units::{NoMemory, hex_digit};
 use std::alloc::Global;
 use std::fmt::{self, Write};
-
-// A lower-case hexadecimal digit.
-fn digit(n: u32) -> &'static str
-    requires { n < 16 }
-    ensures { result.now ≡ hex_digit n ∷ [] }
-{
-    match n {
-        0 => "0",
-        1 => "1",
-        2 => "2",
-        3 => "3",
-        4 => "4",
-        5 => "5",
-        6 => "6",
-        7 => "7",
-        8 => "8",
-        9 => "9",
-        10 => "a",
-        11 => "b",
-        12 => "c",
-        13 => "d",
-        14 => "e",
-        _ => "f",
-    }
-}
 
 /// A sum, as lines have it: eight lower-case hexadecimal digits.
 #[derive(Clone, Copy)]
@@ -52,14 +26,14 @@ impl fmt::Display for SumText {
         write!(
             f,
             "{}{}{}{}{}{}{}{}",
-            digit(sum / 0x1000_0000 % 16),
-            digit(sum / 0x100_0000 % 16),
-            digit(sum / 0x10_0000 % 16),
-            digit(sum / 0x1_0000 % 16),
-            digit(sum / 0x1000 % 16),
-            digit(sum / 0x100 % 16),
-            digit(sum / 0x10 % 16),
-            digit(sum % 16)
+            hex_digit((sum / 0x1000_0000 % 16) as u8),
+            hex_digit((sum / 0x100_0000 % 16) as u8),
+            hex_digit((sum / 0x10_0000 % 16) as u8),
+            hex_digit((sum / 0x1_0000 % 16) as u8),
+            hex_digit((sum / 0x1000 % 16) as u8),
+            hex_digit((sum / 0x100 % 16) as u8),
+            hex_digit((sum / 0x10 % 16) as u8),
+            hex_digit((sum % 16) as u8)
         )
     }
 }
@@ -198,9 +172,10 @@ impl fmt::Display for EntryText {
     }
 }
 
-/// The lines of a chain, the newest log first: `generation Q magic M sector0 P entries C` for each log, with its sequence,
-/// `log` or `restoring`, the sector of the current block 0 and the number of entries; and behind it for each entry, from
-/// the oldest on, `entry I source S dest D size Z sum X`, with the sectors, the bytes, and eight hexadecimal digits.
+/// The lines of a chain, the newest log first: `generation Q magic M sector0 P entries C` for each log, with its
+/// sequence, `log` or `restoring`, the sector of the current block 0 and the number of entries; and behind it for each
+/// entry, from the oldest on, `entry I source S dest D size Z sum X`, with the sectors, the bytes, and eight
+/// hexadecimal digits.
 ///
 /// `NoMemory` is answered where there is no memory for the text.
 pub fn chain_lines(alloc: Global, chain: &Chain) -> Result<Vec<u8>, NoMemory>
@@ -215,7 +190,8 @@ pub fn chain_lines(alloc: Global, chain: &Chain) -> Result<Vec<u8>, NoMemory>
 
 // Adds the lines of a log.
 fn push_log(out: &mut String, log: &Log) -> Result<(), NoMemory>
-    ensures { OnOk result (string_bytes out.new ≡ string_bytes out.old ++ (generation_line log.now ++ entry_lines 0 log.now.entries)) }
+    ensures { OnOk result (string_bytes out.new ≡ string_bytes out.old
+        ++ (generation_line log.now ++ entry_lines 0 log.now.entries)) }
 {
     let generation = GenerationLine {
         sequence: log.sequence,

@@ -2,11 +2,11 @@
 ghost use Rattle.std.specs.Prelude.{◌≡◌, ◌++◌, [], length, OnOk};
 ghost use Rattle.std.specs.String.{string_bytes};
 ghost use Rattle.bow_units.specs.Sizes.{IsBlockSize};
-ghost use Rattle.bow_session.specs.declared.journals.Item.TheVariants.{Got};
-ghost use Rattle.bow_session.specs.Contents.{IsGot};
+ghost use Rattle.bow_plain_session.specs.declared.journals.Item.TheVariants.{Got};
+ghost use Rattle.bow_plain_session.specs.Contents.{IsGot};
 ghost use Rattle.bow_report.specs.Texts.{item_line};
 
-use bow_session::Item;
+use bow_plain_session::Item;
 use bow_units::{NoMemory, Outcome, Phase, push_content};
 use std::fmt::{self, Write};
 
@@ -85,7 +85,8 @@ pub(crate) fn push_got(
     content: &[u8],
 ) -> Result<(), NoMemory>
     requires { IsBlockSize (length content.now) }
-    ensures { OnOk result (string_bytes out.new ≡ string_bytes out.old ++ item_line (Got lane number block) content.now) }
+    ensures { OnOk result (string_bytes out.new ≡ string_bytes out.old
+        ++ item_line (Got lane number block) content.now) }
 {
     write!(out, "{lane}.{number} got {block} ")?;
     push_content(out, content)?;

@@ -1,12 +1,12 @@
 // The transcript of a session.
 ghost use Rattle.std.specs.Prelude.{◌≡◌, ◌++◌, IfOk, OnOk};
 ghost use Rattle.std.specs.String.{string_bytes};
-ghost use Rattle.bow_session.specs.Contents.{AreTold, HasContent, IsGot, asked_in, content_in};
+ghost use Rattle.bow_plain_session.specs.Contents.{AreTold, HasContent, IsGot, asked_in, content_in};
 ghost use Rattle.bow_report.specs.Texts.{item_line, transcript_text};
 
 use crate::lines::{push_done, push_got};
 use bow_disk::Disk;
-use bow_session::{Item, Session};
+use bow_plain_session::{Item, Session};
 use bow_units::NoMemory;
 use std::alloc::Global;
 
@@ -29,7 +29,8 @@ pub fn transcript<D: Disk>(alloc: Global, session: &Session<D>) -> Result<Vec<u8
 // Adds the line of an item of the session's journal.
 fn push_told<D: Disk>(out: &mut String, session: &Session<D>, item: Item) -> Result<(), NoMemory>
     requires { IsGot item → HasContent session.now item }
-    ensures { OnOk result (string_bytes out.new ≡ string_bytes out.old ++ item_line item (content_in (asked_in session.now) item)) }
+    ensures { OnOk result (string_bytes out.new ≡ string_bytes out.old
+        ++ item_line item (content_in (asked_in session.now) item)) }
 {
     let Item::Got {
         lane,

@@ -1,10 +1,9 @@
 // One run of the program over a disk in memory.
 ghost use Rattle.std.specs.Prelude.{◌≡◌, length, IfOk};
-ghost use Rattle.bow_units.specs.Causes.{HasCause};
 
-use bow_disk::{Disk, MemDisk};
+use bow_disk::MemDisk;
 use bow_tool::tool;
-use bow_units::{Failed, Geometry, MemSink, MemSource, fill_pattern};
+use bow_units::{Geometry, MemSink, MemSource, fill_pattern};
 use std::alloc::Global;
 use std::test::Fail;
 
@@ -101,62 +100,4 @@ pub(crate) fn check(alloc: Global, image: &[u8]) -> Result<Played, Fail> {
     let disk = MemDisk::new(alloc, geometry, image.to_vec(alloc)?, 0)?;
     let mut source = MemSource::new(alloc, Vec::new(alloc));
     run_over(alloc, &check_words(alloc)?, disk, &mut source)
-}
-
-/// A disk that states sizes, fails at every other call, and tells no content.
-#[derive(Drop)]
-pub(crate) struct Stated {
-    sizes: Geometry,
-    faults: u64,
-}
-
-impl Stated {
-    pub(crate) fn new(sizes: Geometry) -> Stated {
-        Stated { sizes, faults: 0 }
-    }
-
-    fn fail(&mut self) -> Result<(), Failed>
-        ensures same { self.new.sizes ≡ self.old.sizes }
-        ensures cause { HasCause self.old.faults self.new.faults result }
-    {
-        self.faults = self.faults.saturating_add(1);
-        Err(Failed)
-    }
-}
-
-impl Disk for Stated {
-    ghost use Rattle.std.specs.Prelude.{None, Some};
-    ghost use Rattle.bow_disk.specs.Files.{nothing};
-
-    ghost stated = { λ d. Some d.sizes };
-
-    ghost content = { λ d. None };
-
-    ghost moment = { λ d. 0 };
-
-    ghost left_since = { λ d t image. ⊥ };
-
-    ghost faults = { λ d. d.faults };
-
-    fn sizes(&mut self) -> Result<Geometry, Failed> {
-        Ok(self.sizes)
-    }
-
-    fn read(&mut self, _at: u64, _into: &mut [u8]) -> Result<(), Failed> {
-        self.fail()
-    }
-
-    fn write(&mut self, _at: u64, _from: &[u8]) -> Result<(), Failed> {
-        self.fail()
-    }
-
-    fn flush(&mut self) -> Result<(), Failed> {
-        self.fail()
-    }
-
-    ghost shaped = { λ d c is g stated. absurd (nothing c is) };
-
-    ghost counts_now = { λ d c is t image le crash. absurd (nothing c is) };
-
-    ghost only_now = { λ d c is t image late left. absurd (nothing c is) };
 }

@@ -1,10 +1,9 @@
 // What `check` tells of an image, and what the image keeps of the checkpoint.
-use crate::bench::{I16, SEVEN, Stated, check, check_words, run_over, sample_image};
+use crate::bench::{I16, SEVEN, check, check_words, run_over, sample_image};
 use crate::images::{flip, front, one_log, prepared, set, state_first_sum, sum_at, two_logs};
 use bow_chain::load;
 use bow_disk::{FailMode, MemDisk};
-use bow_tool::tool;
-use bow_units::{Geometry, MemSink, MemSource, pattern_of};
+use bow_units::{Geometry, MemSource, pattern_of};
 use std::alloc::Global;
 use std::fmt::Write;
 use std::test::Fail;
@@ -224,8 +223,8 @@ fn the_disk_fails_or_states_seven_blocks(rt: HostRuntime) -> Result<(), Fail> {
     disk.fail_at(1, FailMode::Lost)?;
     let ran = run_over(alloc, &words, disk, &mut source)?;
     assert!(rt; ran.status == 6 && ran.text.as_slice() == b"disk fault\n".as_slice());
-    let mut sink = MemSink::new(alloc, 64)?;
-    let ended = tool(alloc, &words, Stated::new(SEVEN), &mut source, &mut sink);
-    assert!(rt; ended.status == 13 && sink.bytes() == b"bad geometry 512 7\n".as_slice());
+    let disk = MemDisk::new(alloc, SEVEN, vec![in alloc; 0u8; 3584]?, 0)?;
+    let ran = run_over(alloc, &words, disk, &mut source)?;
+    assert!(rt; ran.status == 13 && ran.text.as_slice() == b"bad geometry 512 7\n".as_slice());
     Ok(())
 }

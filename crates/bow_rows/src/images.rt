@@ -42,8 +42,8 @@ pub(crate) fn one_log(alloc: Global) -> Result<Vec<u8>, Fail> {
     Ok(image)
 }
 
-/// 64 blocks after `discard 30 34`, `prepare` and a write of each of the blocks 1 to 20 with seed 5: the first log is full
-/// and lies in block 51.
+/// 64 blocks after `discard 30 34`, `prepare` and a write of each of the blocks 1 to 20 with seed 5: the first log is
+/// full and lies in block 51.
 pub(crate) fn two_logs(alloc: Global) -> Result<Vec<u8>, Fail> {
     let mut image = patterns(alloc, 64)?;
     put_pattern(&mut image, 30, 0, 0);
@@ -102,14 +102,14 @@ pub(crate) fn sum_at(image: &[u8], source: u64, at: u64) -> u32 {
 }
 
 // Puts the pattern of a block with this seed into block `at`.
-fn put_pattern(image: &mut [u8], at: usize, block: u64, seed: u32) {
+pub(crate) fn put_pattern(image: &mut [u8], at: usize, block: u64, seed: u32) {
     if at < 64 && block < 1_048_576 && at * 512 + 512 <= image.len() {
         fill_pattern(block, seed, &mut image[at * 512..at * 512 + 512]);
     }
 }
 
 // A log without entries.
-fn log_of(sequence: u32, sector0: u64) -> Log {
+pub(crate) fn log_of(sequence: u32, sector0: u64) -> Log {
     Log {
         magic: Magic::Log,
         block_size: 512,
@@ -121,16 +121,22 @@ fn log_of(sequence: u32, sector0: u64) -> Log {
 
 // Adds the entry of a backup of one block, with the sum of what its dest holds.
 fn add_entry(log: &mut Log, image: &[u8], source: u64, dest: u64) {
+    add_entry_of(log, image, source, dest, dest);
+}
+
+/// Adds the entry of a backup of one block, with the sum of what block `at` holds: that is where what was backed up
+/// lies now.
+pub(crate) fn add_entry_of(log: &mut Log, image: &[u8], source: u64, dest: u64, at: u64) {
     let entry = Entry {
         source,
         dest,
         size: 512,
-        sum: sum_at(image, source, dest),
+        sum: sum_at(image, source, at),
     };
     if log.entries.try_push(entry).is_ok() {}
 }
 
-fn put_log(image: &mut [u8], at: usize, log: &Log) {
+pub(crate) fn put_log(image: &mut [u8], at: usize, log: &Log) {
     let geometry = Geometry {
         block_size: 512,
         blocks: (image.len() / 512) as u64,

@@ -1,12 +1,16 @@
-//! Whole runs of the program over disks, sources and sinks in memory: each row is words, an image and a script, and
-//! what has to come of them. All that the crate has are tests.
+//! Whole runs over disks, keepers, sources and sinks in memory: of the program, each row being words, an image and a
+//! script, and what has to come of them; of restorations and of boots. All that the crate has are tests.
 #![tactic(auto)]
 
 #[cfg(test)]
 mod bench;
+#[cfg(test)]
+mod boots;
 #[cfg(test)]
 mod chains;
 #[cfg(test)]
 mod images;
 #[cfg(test)]
 mod plain;
+#[cfg(test)]
+mod restorations;

@@ -1,5 +1,5 @@
 // Plays of writes and reads over the sample image.
-use crate::bench::{I16, SEVEN, Stated, play, play_words, run_over, sample_image, words};
+use crate::bench::{I16, SEVEN, play, play_words, run_over, sample_image, words};
 use bow_disk::{FailMode, MemDisk};
 use bow_tool::tool;
 use bow_units::{MemSink, MemSource, fill_pattern};
@@ -51,17 +51,27 @@ fn bad_words_make_no_call(rt: HostRuntime) -> Result<(), Fail> {
 #[test]
 fn seven_blocks_are_no_device(rt: HostRuntime) -> Result<(), Fail> {
     let alloc = rt.alloc();
+    let image = vec![in alloc; 0u8; 3584]?;
+    let disk = MemDisk::new(alloc, SEVEN, image, 0)?;
     let mut source = MemSource::new(alloc, Vec::new(alloc));
-    let mut sink = MemSink::new(alloc, 64)?;
-    let ended = tool(
-        alloc,
-        &play_words(alloc)?,
-        Stated::new(SEVEN),
-        &mut source,
-        &mut sink,
-    );
-    assert_eq!(rt; ended.status, 13);
-    assert_eq!(rt; sink.bytes(), b"bad geometry 512 7\n".as_slice());
+    let ran = run_over(alloc, &play_words(alloc)?, disk, &mut source)?;
+    assert_eq!(rt; ran.status, 13);
+    assert_eq!(rt; ran.text.as_slice(), b"bad geometry 512 7\n".as_slice());
+    assert_eq!(rt; ran.calls, 0);
+    Ok(())
+}
+
+#[test]
+fn sizes_that_are_not_told_are_a_disk_fault(rt: HostRuntime) -> Result<(), Fail> {
+    let alloc = rt.alloc();
+    let mut disk = MemDisk::new(alloc, I16, sample_image(alloc)?, 64)?;
+    disk.fail_sizes(1);
+    let mut source = MemSource::new(alloc, Vec::new(alloc));
+    let ran = run_over(alloc, &play_words(alloc)?, disk, &mut source)?;
+    assert_eq!(rt; ran.status, 6);
+    assert_eq!(rt; ran.text.as_slice(), b"disk fault\n".as_slice());
+    assert_eq!(rt; ran.calls, 0);
+    assert_eq!(rt; ran.image, sample_image(alloc)?);
     Ok(())
 }
 

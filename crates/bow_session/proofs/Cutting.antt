@@ -1,190 +1,175 @@
--- What cuts leave as a journal goes on.
-use Rattle.std.proofs.Common.{◌≡◌, ◌⊎◌, inl, inr, ℕ, suc, ◌+◌, ◌-◌, ◌^◌, ◌<◌, ◌≤◌, min, max, List, [], ◌∷◌, ◌++◌, length, drop, Option, None, Some, refl, sym, ap, ◌∙◌, subst, arith, length-append}
-use Rattle.std.specs.Prelude.{slice_index_or}
-use Rattle.std.proofs.lemmas.Bool.{cases_lt, cases_eq}
-use Rattle.std.proofs.lemmas.List.{take_all, drop_all, take-append-le, drop-append-le, get_or_append_left, get_or-append_right}
+-- What cuts of a session leave is what cuts of its run leave, whatever its turns; and where that leads.
+use Rattle.std.proofs.Common.{◌≡◌, ℕ, zero, suc, ◌+◌, ◌≤◌, ◌++◌, List, [], ◌∷◌, length, Option, Some, None, arith, refl, sym, ap, ◌∙◌, subst}
+use Rattle.std.specs.Prelude.{slice_get}
+use Rattle.std.specs.Option.{option_map}
+use Rattle.std.proofs.lemmas.List.{append-nil, append_assoc}
+use Rattle.bow_units.specs.Draws.{next_number}
 use Rattle.bow_units.specs.declared.sizes.Geometry.{Geometry}
-use Rattle.bow_units.specs.declared.requests.Op.{Op}
-use Rattle.bow_units.specs.declared.requests.Phase.{Phase}
-use Rattle.bow_units.specs.declared.requests.Outcome.{Outcome}
-use Rattle.bow_units.specs.declared.requests.Outcome.TheVariants as outcomes
-use Rattle.bow_disk.specs.Disk.{Content, IsCrash}
+use Rattle.bow_disk.specs.Disk.{Content, IsCrash, IsShaped, IsImage, Goes}
+use Rattle.bow_chain.specs.Contents.{contents_of}
 use Rattle.bow_flat.specs.Flat.{Flat}
-use Rattle.bow_core.specs.declared.turns.Ticket.{Ticket}
-use Rattle.bow_core.specs.declared.turns.Step.TheVariants as steps
-use Rattle.bow_core.specs.Standing.{Stands, StandsFor}
-use Rattle.bow_core.specs.Cuts.{Counted, MomentCounted, CutsGo, calls_of}
-use Rattle.bow_session.specs.declared.journals.Item.{Item}
-use Rattle.bow_session.specs.declared.journals.Item.TheVariants as items
-use Rattle.bow_session.specs.Journal.{Asked, Place, ItemStep, Legal}
-use Rattle.bow_session.specs.Moments.{calls_told, after_item, calls_after, moments_from}
-use Rattle.bow_session.specs.Cuts.{CanLeave, Cuts, IsOnTheWay, CutsStand}
-use Rattle.bow_session.proofs.Rows.{Legal-push}
+use Rattle.bow_guard.specs.Cuts.{candidates_of}
+use Rattle.bow_machine.specs.Ahead.{IsLed}
+use Rattle.bow_machine.specs.Calls.{Call, Reply, calls_in, DoesIt, Passes}
+use Rattle.bow_machine.specs.MemoryLaws.{IsOnDevice}
+use Rattle.bow_core.specs.Calls.{DoesOne}
+use Rattle.bow_core.specs.Views.{View}
+use Rattle.bow_core.proofs.Leading.{does_it}
+use Rattle.bow_history.specs.Complete.{IsComplete}
+use Rattle.bow_history.specs.Complete as complete
+use Rattle.bow_history.specs.DiskCuts.{disk_of, HasCuts}
+use Rattle.bow_history.specs.Histories.{session_after, DoesTurn}
+use Rattle.bow_history.specs.Journal.{Plan}
+use Rattle.bow_history.specs.Schedule.{FollowsDraws}
+use Rattle.bow_history.specs.Sessions.{Session, Turned, Admits, Steps, turn_of, after_turn, call_in, reply_in, IsTurn}
+use Rattle.bow_history.specs.SoundSessions.{IsSoundSession}
+use Rattle.bow_history.proofs.DiskCuts.{loaded_has_cuts, turns_have_cuts, cuts_of_disk, cuts_of_disk_are_ahead}
+use Rattle.bow_history.proofs.Runs.{beginning_is_at}
+use Rattle.bow_history.proofs.SoundTurns.{over_is_empty, runs_are_complete}
+use Rattle.bow_session.specs.Cuts.{CutsAreOfRun, LoadedHasCutsOfRun, GoesOn, RunsLead, RunsLeadAhead, OverIsComplete, OverIsIdle}
+use Rattle.bow_session.specs.Plays.{Plays}
+use Rattle.bow_session.specs.Requests.{plan_of, lane_lines, request_of}
+use Rattle.bow_session.specs.Runs.{IsRun, begun_over}
+use Rattle.bow_session.specs.Sessions.{Run, plan_in, state_in}
+use Rattle.bow_session.specs.Sessions as sessions
+use Rattle.bow_session.specs.Turns.{IsOneTurn, PassesTurn}
+use Rattle.bow_session.proofs.Running.{on_device, run_on, run_plays}
 
--- What a step makes of the cuts of a run: its disk's count of calls before and after it, the device's after it, the state
--- after it, and what a cut since a moment might have left then and may leave now.
-pub record StepCuts (n : ℕ) (cuts : Cuts) (since : ℕ → List (List ℕ) → Type 0) (leaves : List (List ℕ) → Type 0) (before now calls : ℕ) (flat : Flat) : Type 0 where
-  pub begun : cuts.start ≤ before
-  pub counted : Counted calls cuts.start now
-  pub goes : CutsGo before now cuts.since since (Stands n flat)
-  pub later : (t : ℕ) (image : List (List ℕ)) → now ≤ t → since t image → Stands n flat image
-  pub ends : (image : List (List ℕ)) → leaves image → Stands n flat image
+-- a turn leaves the plan
+pub plan_stays : {D : Type 0} (stated : D → Option Geometry) (content : D → Option Content) (moment : D → ℕ) (left : D → ℕ → List (List ℕ) → Type 0) (faults : D → ℕ) (old : Run D) (turn : Turned) (new : Run D)
+    → IsOneTurn stated content moment left faults old turn new → plan_in new ≡ plan_in old
+plan_stays stated content moment left faults old turn new one = ap (λ g. plan_of g new.script) one.geometry ∙ ap (plan_of old.core.geometry) one.script
 
--- the same cuts, after a step
-abbrev pub cuts_then : Cuts → (ℕ → List (List ℕ) → Type 0) → (List (List ℕ) → Type 0) → Cuts
-cuts_then cuts since leaves = record { start = cuts.start; early = cuts.early; since = since; now = leaves }
+-- what a turn did on a disk that told its content
+pub record DidTold {D : Type 0} (content : D → Option Content) (moment : D → ℕ) (left : D → ℕ → List (List ℕ) → Type 0) (g : Geometry) (call : Option Call) (reply : Reply) (c : Content) (a b : D) : Type 0 where
+  pub told : Content
+  pub tells : content b ≡ Some told
+  pub listed : length told.candidates ≡ g.blocks
+  pub does : DoesIt g call reply (contents_of c.now) (candidates_of c.candidates) (contents_of told.now) (candidates_of told.candidates)
+  pub passes : Passes (calls_in call) (content b) (moment a) (moment b) (left a) (left b)
 
--- the same sizes have the same number of blocks
-pub blocks_same : (g h : Geometry) → g ≡ h → g.blocks ≡ h.blocks
-blocks_same g h same = ap (λ (x : Geometry). x.blocks) same
-
--- a cut leaves a state for which the disk stands
-pub crash_stands : (phase : Phase) (n : ℕ) (content : Option Content) (f : Flat) (image : List (List ℕ)) → (listed : (c : Content) → content ≡ Some c → length c.candidates ≡ n) → StandsFor phase n content f → CanLeave content image → Stands n f image
-crash_stands phase n None f image listed stands leaves = absurd stands
-crash_stands phase n (Some c) f image listed stands leaves = λ b low. stands.leaves b (slice_index_or image b []) low (leaves.each b (let long = listed c refl in omega (arith, low, long)))
-
-module _ (asked : Asked) (journal : List Item) (first last : Place) where
-  -- the last place is on the way
-  pub on_the_end : (n : ℕ) (image : List (List ℕ)) → Legal asked journal first last → n ≤ length journal → Stands asked.sizes.blocks last.flat image → IsOnTheWay asked journal first last n image
-  on_the_end n image legal short stands = record {
-    front = length journal;
-    has = short;
-    within = omega arith;
-    place = last;
-    before = subst (λ is. Legal asked is first last) (sym (take_all (length journal) journal (omega arith))) legal;
-    after = subst (λ is. Legal asked is last last) (sym (drop_all (length journal) journal (omega arith))) refl;
-    stands = stands;
-  }
-
-  -- a place on the way of a journal is on that of a longer one
-  pub on_the_longer : (item : Item) (next : Place) (n : ℕ) (image : List (List ℕ)) → ItemStep asked item last next → IsOnTheWay asked journal first last n image → IsOnTheWay asked (journal ++ item ∷ []) first next n image
-  on_the_longer item next n image step w = record {
-    front = w.front;
-    has = w.has;
-    within = omega (arith, w.within, length-append journal (item ∷ []));
-    place = w.place;
-    before = subst (λ is. Legal asked is first w.place) (sym (take-append-le w.front journal (item ∷ []) w.within)) w.before;
-    after = subst (λ is. Legal asked is w.place next) (sym (drop-append-le w.front journal (item ∷ []) w.within)) (Legal-push asked (drop w.front journal) w.place last next item w.after step);
-    stands = w.stands;
-  }
-
-  -- one item more
-  pub cuts_push : (item : Item) (next : Place) (moments : List ℕ) (cuts : Cuts) (since : ℕ → List (List ℕ) → Type 0) (leaves : List (List ℕ) → Type 0) (before now calls : ℕ)
-      → Legal asked journal first last → ItemStep asked item last next → length moments ≡ length journal → StepCuts asked.sizes.blocks cuts since leaves before now calls next.flat
-      → CutsStand asked journal moments first last cuts → CutsStand asked (journal ++ item ∷ []) (moments ++ calls ∷ []) first next (cuts_then cuts since leaves)
-  cuts_push item next moments cuts since leaves before now calls legal step long s h = record { ever = ever; item = each; now = s.ends }
+module _ {D : Type 0} (stated : D → Option Geometry) (content : D → Option Content) (moment : D → ℕ) (left : D → ℕ → List (List ℕ) → Type 0) (faults : D → ℕ)
+    (shaped : (d : D) (c : Content) → content d ≡ Some c → (g : Geometry) → stated d ≡ Some g → IsShaped g.block_size g.blocks c) where
+  -- a call on a disk that told its content
+  told_after : (g : Geometry) (call : Option Call) (reply : Reply) (c : Content) (a b : D) → content a ≡ Some c → stated a ≡ Some g → stated b ≡ Some g → IsOnDevice g call
+      → Goes (DoesOne call reply) (content a) (content b) → Passes (calls_in call) (content b) (moment a) (moment b) (left a) (left b) → DidTold content moment left g call reply c a b
+  told_after g call reply c a b is was now on goes passes = by (content b) refl (subst (λ o. Goes (DoesOne call reply) o (content b)) is goes)
     where
-      whole : Legal asked (journal ++ item ∷ []) first next
-      whole = Legal-push asked journal first last next item legal step
-
-      size : length (journal ++ item ∷ []) ≡ length journal + 1
-      size = length-append journal (item ∷ [])
-
-      at_end : (n : ℕ) (image : List (List ℕ)) → n ≤ length journal + 1 → Stands asked.sizes.blocks next.flat image → IsOnTheWay asked (journal ++ item ∷ []) first next n image
-      at_end n image short stands = record {
-        front = length (journal ++ item ∷ []);
-        has = omega (arith, short, size);
-        within = omega arith;
-        place = next;
-        before = subst (λ is. Legal asked is first next) (sym (take_all (length (journal ++ item ∷ [])) (journal ++ item ∷ []) (omega arith))) whole;
-        after = subst (λ is. Legal asked is next next) (sym (drop_all (length (journal ++ item ∷ [])) (journal ++ item ∷ []) (omega arith))) refl;
-        stands = stands;
+      by : (o : Option Content) → content b ≡ o → Goes (DoesOne call reply) (Some c) o → DidTold content moment left g call reply c a b
+      by None at goes = absurd goes
+      by (Some d) at goes = record {
+        told = d;
+        tells = at;
+        listed = (shaped b d at g now).listed;
+        does = does_it g c d (shaped a c is g was) (shaped b d at g now) call reply on goes;
+        passes = passes;
       }
 
-      ever : (image : List (List ℕ)) → since cuts.start image → cuts.early image ⊎ IsOnTheWay asked (journal ++ item ∷ []) first next 0 image
-      ever image left = elim (s.goes.each cuts.start image s.begun left) [
-        | inl past ↦ elim (h.ever image past) [
-          | inl early ↦ inl early
-          | inr way ↦ inr (on_the_longer item next 0 image step way)
-        ]
-        | inr stands ↦ inr (at_end 0 image (omega arith) stands)
-      ]
+  did_told : (old : Run D) (turn : Turned) (new : View D) (c : Content) → content old.core.disk ≡ Some c → stated old.core.disk ≡ Some old.core.geometry → IsSoundSession (plan_in old) (state_in old)
+      → PassesTurn stated content moment left faults old turn new → DidTold content moment left old.core.geometry (call_in (plan_in old) (state_in old) turn) (reply_in turn) c old.core.disk new.disk
+  did_told old (Admits lane ticket op) new c is sizes sound passes = record {
+    told = c;
+    tells = ap content passes.0 ∙ is;
+    listed = (shaped old.core.disk c is old.core.geometry sizes).listed;
+    does = (refl, refl);
+    passes = (ap moment passes.0, λ t image later. subst (λ d. left d t image) passes.0 later);
+  }
+  did_told old (Steps actor reply) new c is sizes sound made =
+      told_after old.core.geometry (call_in (plan_in old) (state_in old) (Steps actor reply)) reply c old.core.disk new.disk is sizes made.sizes
+      (on_device (plan_in old) (state_in old) (turn_of (state_in old) actor) sound) made.disk made.time
 
-      last_moment : (i : ℕ) → i ≡ length journal → slice_index_or (moments ++ calls ∷ []) i 0 ≡ calls
-      last_moment i at =
-          let none : i - length moments ≡ 0 = omega (arith, at, long) in
-          get_or-append_right moments (calls ∷ []) (length moments) i 0 refl (omega (arith, at, long)) ∙ ap (λ k. slice_index_or (calls ∷ []) k 0) none
+  module _ (only_now : (d : D) (c : Content) → content d ≡ Some c → (t : ℕ) (image : List (List ℕ)) → moment d ≤ t → left d t image → IsCrash c.candidates image) where
+    pub loaded_cuts : LoadedHasCutsOfRun stated content moment left
+    loaded_cuts v sizes c is = loaded_has_cuts content moment left only_now v.core.disk c (plan_in v) (begun_over v.core) is (shaped v.core.disk c is v.core.geometry sizes).listed
 
-      old_moment : (i : ℕ) → i < length journal → slice_index_or (moments ++ calls ∷ []) i 0 ≡ slice_index_or moments i 0
-      old_moment i low = get_or_append_left moments (calls ∷ []) 0 i (omega (arith, low, long))
+    -- cuts of a run stay so with one turn
+    pub cuts_on : (first : View D) (turns : List Turned) (old : Run D) (turn : Turned) (new : Run D) → IsRun stated content faults first turns old → IsOneTurn stated content moment left faults old turn new
+        → CutsAreOfRun content moment left first turns old → CutsAreOfRun content moment left first (turns ++ turn ∷ []) new
+    cuts_on first turns old turn new k one cuts c is =
+        let has = cuts c is in
+        let plan = plan_in old in
+        let e : state_in old ≡ session_after plan (begun_over first) turns = sym k.state in
+        let sound = subst (IsSoundSession plan) k.state (k.session).sound in
+        let did = did_told old turn new.core has.last has.tells k.sizes sound one.passes in
+        let next = turns_have_cuts content moment left only_now first.disk old.core.disk new.core.disk has.last did.told plan (begun_over first) turns turn (disk_of c) has has.tells did.tells did.listed
+        (subst (λ s. IsTurn plan s turn) e one.may)
+        (subst (λ s. DoesTurn plan s turn (disk_of has.last) (disk_of did.told)) e did.does)
+        (subst (λ s. Passes (calls_in (call_in plan s turn)) (content new.core.disk) (moment old.core.disk) (moment new.core.disk) (left old.core.disk) (left new.core.disk)) e did.passes) in
+        subst (λ p. HasCuts content moment left first.disk new.core.disk p (begun_over first) (turns ++ turn ∷ []) (disk_of c)) (sym (plan_stays stated content moment left faults old turn new one)) next
 
-      old : (i : ℕ) (image : List (List ℕ)) → i < length journal → since (cuts.start + slice_index_or moments i 0) image → IsOnTheWay asked (journal ++ item ∷ []) first next (suc i) image
-      old i image low left = elim (cases_lt before (cuts.start + slice_index_or moments i 0)) [
-        | inl late ↦ at_end (suc i) image (omega (arith, low)) (s.later (cuts.start + slice_index_or moments i 0) image (let one = s.goes.one in omega (arith, late, one)) left)
-        | inr early ↦ elim (s.goes.each (cuts.start + slice_index_or moments i 0) image (omega (arith, early)) left) [
-          | inl past ↦ on_the_longer item next (suc i) image step (h.item i image low past)
-          | inr stands ↦ at_end (suc i) image (omega (arith, low)) stands
-        ]
-      ]
+    pub goes_on : (first : View D) (turns : List Turned) (old : Run D) (turn : Turned) (new : Run D) → IsRun stated content faults first turns old → IsOneTurn stated content moment left faults old turn new
+        → GoesOn stated content moment left faults first turns (turn ∷ []) old new
+    goes_on first turns old turn new k one = record {
+      run = run_on stated content moment left faults shaped first turns old turn new k one;
+      cuts = cuts_on first turns old turn new k one;
+    }
 
-      each : (i : ℕ) (image : List (List ℕ)) → i < length (journal ++ item ∷ []) → since (cuts.start + slice_index_or (moments ++ calls ∷ []) i 0) image → IsOnTheWay asked (journal ++ item ∷ []) first next (suc i) image
-      each i image low left = elim (cases_eq i (length journal)) [
-        | inl at ↦ at_end (suc i) image (omega (arith, at))
-            (s.later (cuts.start + calls) image (let is = s.counted in omega (arith, is)) (subst (λ m. since (cuts.start + m) image) (last_moment i at) left))
-        | inr apart ↦ let is_old : i < length journal = omega (arith, apart, low, size) in old i image is_old (subst (λ m. since (cuts.start + m) image) (old_moment i is_old) left)
-      ]
+    -- and with all turns of a schedule
+    cuts_play : (first : View D) (turns : List Turned) (x : ℕ) (old : Run D) (more : List Turned) (new : Run D) → IsRun stated content faults first turns old → Plays stated content moment left faults x old more new
+        → CutsAreOfRun content moment left first turns old → CutsAreOfRun content moment left first (turns ++ more) new
+    cuts_play first turns x old [] new k plays cuts = subst (λ v. CutsAreOfRun content moment left first (turns ++ []) v) (sym plays) (subst (λ ts. CutsAreOfRun content moment left first ts old) (sym (append-nil turns)) cuts)
+    cuts_play first turns x old (turn ∷ more) new k plays cuts =
+        subst (λ ts. CutsAreOfRun content moment left first ts new) (append_assoc turns (turn ∷ []) more)
+        (cuts_play first (turns ++ turn ∷ []) (next_number x) plays.0 more new (run_on stated content moment left faults shaped first turns old turn plays.0 k plays.2) plays.3 (cuts_on first turns old turn plays.0 k plays.2 cuts))
 
--- before the first item
-pub cuts_none : (asked : Asked) (first : Place) (cuts : Cuts) → ((image : List (List ℕ)) → cuts.since cuts.start image → cuts.early image) → ((image : List (List ℕ)) → cuts.now image → Stands asked.sizes.blocks first.flat image) → CutsStand asked [] [] first first cuts
-cuts_none asked first cuts early now = record { ever = λ image left. inl (early image left); item = λ i image low. absurd (let h : ⊥ = omega (arith, low) in h); now = now }
+    pub plays_go_on : (first : View D) (turns : List Turned) (x : ℕ) (old : Run D) (more : List Turned) (new : Run D) → IsRun stated content faults first turns old → Plays stated content moment left faults x old more new
+        → GoesOn stated content moment left faults first turns more old new
+    plays_go_on first turns x old more new k plays = record {
+      run = run_plays stated content moment left faults shaped first turns x old more new k plays;
+      cuts = cuts_play first turns x old more new k plays;
+    }
 
--- an item of a step tells its calls
-pub told_calls : (t : Ticket) (op : Op) (outcome : Outcome) (n : ℕ) → calls_of (steps.Answered t op outcome) ≡ calls_told (items.Answered 0 n outcome)
-told_calls t op outcomes.Done n = refl
-told_calls t op outcomes.Data n = refl
-told_calls t op outcomes.OutOfRange n = refl
-told_calls t op outcomes.ReservedMagic n = refl
-told_calls t op (outcomes.DiskFault k) n = refl
-told_calls t op (outcomes.NoSpace k) n = refl
-told_calls t op (outcomes.WrongPhase h) n = refl
-told_calls t op (outcomes.Unsettled h) n = refl
+    -- where such runs lead
+    pub runs_lead : RunsLead content moment left
+    runs_lead first turns v c f cuts is ready =
+        cuts_of_disk content moment left only_now first.disk v.core.disk (plan_in v) (begun_over first) turns (disk_of c) _ (cuts c is) (beginning_is_at (plan_in v) first.memory first.admitted (disk_of c) f ready).0
 
--- the calls after one item more
-after_push : (before : ℕ) (journal : List Item) (item : Item) → calls_after before (journal ++ item ∷ []) ≡ after_item (calls_after before journal) item
-after_push before [] item = refl
-after_push before (x ∷ journal) item = after_push (after_item before x) journal item
+    pub runs_lead_ahead : (cuts_shaped : (d : D) (c : Content) → content d ≡ Some c → (g : Geometry) → stated d ≡ Some g → (t : ℕ) (image : List (List ℕ)) → left d t image → IsImage g.block_size g.blocks image)
+        → RunsLeadAhead stated content moment left faults
+    runs_lead_ahead cuts_shaped first turns v c f run cuts is ready led fine =
+        let at = beginning_is_at (plan_in v) first.memory first.admitted (disk_of c) f ready in
+        cuts_of_disk_are_ahead content moment left only_now stated shaped cuts_shaped first.disk v.core.disk (plan_in v) (begun_over first) turns (disk_of c) _ (cuts c is) run.sizes at.0
+        (subst (IsLed v.core.geometry first.memory (contents_of c.now) (candidates_of c.candidates)) (sym at.1) led) fine
 
--- the moments of one item more
-from_push : (before : ℕ) (journal : List Item) (item : Item) → moments_from before (journal ++ item ∷ []) ≡ moments_from before journal ++ after_item (calls_after before journal) item ∷ []
-from_push before [] item = refl
-from_push before (x ∷ journal) item = ap (λ ms. after_item before x ∷ ms) (from_push (after_item before x) journal item)
+-- the turns of a schedule follow its draws
+pub plays_follow : {D : Type 0} (stated : D → Option Geometry) (content : D → Option Content) (moment : D → ℕ) (left : D → ℕ → List (List ℕ) → Type 0) (faults : D → ℕ) (x : ℕ) (old : Run D) (more : List Turned) (new : Run D)
+    → Plays stated content moment left faults x old more new → FollowsDraws (plan_in old) (state_in old) x more
+plays_follow stated content moment left faults x old [] new plays = tt
+plays_follow stated content moment left faults x old (turn ∷ more) new plays =
+    let mid = plays.0 in
+    let rest = plays_follow stated content moment left faults (next_number x) mid more new plays.3 in (
+      plays.1,
+      subst (λ (s : Session). FollowsDraws (plan_in old) s (next_number x) more) (plays.2).state
+          (subst (λ (p : Plan). FollowsDraws p (state_in mid) (next_number x) more) (plan_stays stated content moment left faults old turn mid plays.2) rest),
+    )
 
--- the counts after one item more
-pub counted_push : (before calls calls' k : ℕ) (journal journal' : List Item) (moments moments' : List ℕ) (item : Item) → journal' ≡ journal ++ item ∷ [] → moments' ≡ moments ++ calls' ∷ [] → k ≡ calls_told item → Counted k calls calls'
-    → calls ≡ calls_after before journal → moments ≡ moments_from before journal → (calls' ≡ calls_after before journal') × (moments' ≡ moments_from before journal')
-counted_push before calls calls' k journal journal' moments moments' item is_journal is_moments is_k goes had was =
-    let now : calls' ≡ after_item (calls_after before journal) item = goes ∙ ap (λ n. max calls (min (calls + n) (2 ^ 64 - 1))) is_k ∙ ap (λ n. after_item n item) had in
-    (now ∙ sym (after_push before journal item) ∙ ap (calls_after before) (sym is_journal), is_moments ∙ ap (λ ms. ms ++ calls' ∷ []) was ∙ ap (λ n. moments_from before journal ++ n ∷ []) now ∙ sym (from_push before journal item) ∙ ap (moments_from before) (sym is_journal))
+-- and leave the script and the sizes
+pub script_stays : {D : Type 0} (stated : D → Option Geometry) (content : D → Option Content) (moment : D → ℕ) (left : D → ℕ → List (List ℕ) → Type 0) (faults : D → ℕ) (x : ℕ) (old : Run D) (more : List Turned) (new : Run D)
+    → Plays stated content moment left faults x old more new → (new.script ≡ old.script) × (new.core.geometry ≡ old.core.geometry)
+script_stays stated content moment left faults x old [] new plays = (ap (λ (v : Run _). v.script) plays, ap (λ (v : Run _). v.core.geometry) plays)
+script_stays stated content moment left faults x old (turn ∷ more) new plays =
+    let rest = script_stays stated content moment left faults (next_number x) plays.0 more new plays.3 in
+    (rest.0 ∙ (plays.2).script, rest.1 ∙ (plays.2).geometry)
 
--- a step makes one call at most
-pub few_calls : (t : Ticket) (op : Op) (outcome : Outcome) → calls_of (steps.Answered t op outcome) ≤ 1
-few_calls t op outcomes.Done = omega arith
-few_calls t op outcomes.Data = omega arith
-few_calls t op outcomes.OutOfRange = omega arith
-few_calls t op outcomes.ReservedMagic = omega arith
-few_calls t op (outcomes.DiskFault k) = omega arith
-few_calls t op (outcomes.NoSpace k) = omega arith
-few_calls t op (outcomes.WrongPhase h) = omega arith
-few_calls t op (outcomes.Unsettled h) = omega arith
+-- ----------------------------------------------------------------------------------------------------------------
+-- A run that is over.
 
--- the two clocks go on together
-pub clocks_go : (start calls calls' before now k : ℕ) → k ≤ 1 → Counted calls start before → Counted k calls calls' → Counted k before now → Counted calls' start now
-clocks_go start calls calls' before now k few was goes went = omega (arith, few, was, goes, went)
+-- there is nothing at the length of a list
+past_end : {A : Type 0} (xs : List A) (n : ℕ) → n ≡ length xs → slice_get xs n ≡ None
+past_end [] n is = refl
+past_end (x ∷ xs) zero is = absurd (omega (arith, is))
+past_end (x ∷ xs) (suc n) is = past_end xs n (omega (arith, is))
 
--- what a step of the device makes of the cuts
-pub step_cuts : (phase : Phase) (n : ℕ) (content : Option Content) (cuts : Cuts) (since : ℕ → List (List ℕ) → Type 0) (before now calls calls' k : ℕ) (f : Flat) → k ≤ 1 → Counted calls cuts.start before → Counted k calls calls' → MomentCounted k content before now → CutsGo before now cuts.since since (Stands n f)
-    → ((c : Content) → content ≡ Some c → length c.candidates ≡ n) → ((c : Content) → content ≡ Some c → (t : ℕ) (image : List (List ℕ)) → now ≤ t → since t image → IsCrash c.candidates image)
-    → StandsFor phase n content f → StepCuts n cuts since (CanLeave content) before now calls' f
-step_cuts phase n None cuts since before now calls calls' k f few was counts moment goes listed law stands = absurd stands
-step_cuts phase n (Some c) cuts since before now calls calls' k f few was counts moment goes listed law stands = record {
-  begun = omega (arith, was);
-  counted = clocks_go cuts.start calls calls' before now k few was counts moment;
-  goes = goes;
-  later = λ t image late left. crash_stands phase n (Some c) f image listed stands (law c refl t image late left);
-  ends = λ image left. crash_stands phase n (Some c) f image listed stands left;
-}
+-- where all requests of each lane are answered, no lane has one left
+over_there : {D : Type 0} (stated : D → Option Geometry) (content : D → Option Content) (faults : D → ℕ) (first : View D) (turns : List Turned) (v : Run D) → IsRun stated content faults first turns v → sessions.IsOver v
+    → complete.IsOver (plan_in v) (session_after (plan_in v) (begun_over first) turns)
+over_there stated content faults first turns v run over = subst (complete.IsOver (plan_in v)) (sym run.state)
+    (λ lane below. ap (option_map (request_of v.core.geometry.block_size)) (past_end (lane_lines v.script lane) ((state_in v).number lane) (over lane)))
 
--- the clocks after a step of a disk that tells its content
-pub clocks_then : (phase : Phase) (n : ℕ) (content : Option Content) (f : Flat) (start calls calls' before now k : ℕ) → k ≤ 1 → StandsFor phase n content f → Counted calls start before → Counted k calls calls' → MomentCounted k content before now → Counted calls' start now
-clocks_then phase n None f start calls calls' before now k few stands was counts moment = absurd stands
-clocks_then phase n (Some c) f start calls calls' before now k few stands was counts moment = clocks_go start calls calls' before now k few was counts moment
+pub over_is_complete : {D : Type 0} (stated : D → Option Geometry) (content : D → Option Content) (faults : D → ℕ) → OverIsComplete stated content faults
+over_is_complete stated content faults first turns v run over sound none = subst (IsComplete (plan_in v)) (sym (run.session).journal)
+    (runs_are_complete (plan_in v) first.memory first.admitted turns (run.session).rise sound none (run.session).may (over_there stated content faults first turns v run over))
+
+pub over_is_idle : {D : Type 0} (stated : D → Option Geometry) (content : D → Option Content) (faults : D → ℕ) → OverIsIdle stated content faults
+over_is_idle stated content faults first turns v run over =
+    ap (λ m. m.requests) (sym (run.session).memory) ∙ over_is_empty (plan_in v) (session_after (plan_in v) (begun_over first) turns) (run.session).sound (over_there stated content faults first turns v run over)

@@ -1,50 +1,39 @@
--- What the items of a journal read.
-use Rattle.std.specs.Prelude.{ℕ, ◌+◌, ◌-◌, ◌<◌, ◌≤◌, List, [], Option, None, Some, All}
+-- What the reads of a session have read.
+use Rattle.std.specs.Prelude.{◌≡◌, ℕ, ◌-◌, ◌*◌, List, [], length, slice_get, Option, None, Some}
 use Rattle.bow_units.specs.declared.requests.Op.{Op}
-use Rattle.bow_units.specs.declared.requests.Op.TheVariants as ops
+use Rattle.bow_units.specs.declared.requests.Op.TheVariants.{Read}
 use Rattle.bow_flat.specs.Flat.{block_at}
-use Rattle.bow_script.specs.declared.scripts.Line.{Line}
-use Rattle.bow_session.specs.declared.journals.Item.{Item}
-use Rattle.bow_session.specs.declared.journals.Item.TheVariants.{Got}
-use Rattle.bow_session.specs.Journal.{Asked}
-use Rattle.bow_session.specs.Lanes.{requests}
-use Rattle.bow_session.specs.Requests.{first_of}
-use Rattle.bow_session.specs.Sessions.{Run, asked_of, buffer_of, count_of}
+use Rattle.bow_history.specs.declared.items.Item.{Item}
+use Rattle.bow_history.specs.declared.items.Item.TheVariants.{Wrote, Got, Answered}
+use Rattle.bow_history.specs.Journal.{Plan, Buffers}
+use Rattle.bow_session.specs.Sessions.{Lane, lane_at}
 
--- it tells of a block that was read
-abbrev pub IsGot : Item → Type 0
-IsGot (Got lane n b) = Unit {0}
-IsGot item = ⊥
+-- the bytes in the buffer of a read, and none of another request
+abbrev pub bytes_read : Option Op → Option (List ℕ)
+bytes_read (Some (Read e bytes)) = Some bytes
+bytes_read request = None
 
--- the first block of a request
-abbrev pub first_block : Option Op → ℕ
-first_block None = 0
-first_block (Some op) = first_of op
+-- what stands in the buffer of request n of a lane, if it is an answered read
+abbrev pub data_of : List Lane → ℕ → ℕ → Option (List ℕ)
+data_of lanes lane n = bytes_read (slice_get ((lane_at lanes lane).answered) n)
 
--- what an item read, from the buffer of its request
-abbrev pub content_in : Asked → Item → List ℕ
-content_in asked (Got lane n b) = block_at asked.sizes.block_size (asked.buffer lane n) (b - first_block (asked.request lane n))
-content_in asked item = []
+-- what the buffer of a request has of block b, if it is a read
+abbrev pub block_read : ℕ → Option Op → List ℕ → ℕ → List ℕ
+block_read size (Some (Read e asked)) bytes b = block_at size bytes (b - e.first)
+block_read size request bytes b = []
 
--- a read of this block
-abbrev pub IsReadOf : Option Op → ℕ → Type 0
-IsReadOf (Some (ops.Read e p)) b = (e.first ≤ b) × (b < e.first + e.count)
-IsReadOf request b = ⊥
+-- what these buffers have of the block of an item that tells of a read
+abbrev pub content_in : Plan → Buffers → Item → List ℕ
+content_in plan buffer (Got lane n b) = block_read plan.sizes.block_size (plan.request lane n) (buffer lane n) b
+content_in plan buffer (Wrote lane n b) = []
+content_in plan buffer (Answered lane n outcome) = []
 
--- what is told as read is a block of a read
-abbrev pub IsOfRead : ℕ → List (List (List Line)) → Item → Type 0
-IsOfRead size script (Got lane n b) = IsReadOf (requests size script lane n) b
-IsOfRead size script item = Unit {0}
+-- the bytes that are given, and no bytes where none are
+abbrev pub bytes_given : Option (List ℕ) → List ℕ
+bytes_given None = []
+bytes_given (Some bytes) = bytes
 
--- what the session's journal is about, with the bytes that stand in its buffers
-abbrev pub asked_in : {D : Type 0} → Run D → Asked
-asked_in s = asked_of s.core.geometry s.script (buffer_of s.answered s.core.waiting)
-
--- the item tells of a block that an answered read covers
-abbrev pub HasContent : {D : Type 0} → Run D → Item → Type 0
-HasContent s (Got lane n b) = (n < count_of s.answered lane) × IsReadOf (requests s.core.geometry.block_size s.script lane n) b
-HasContent s item = ⊥
-
--- each block that the journal tells as read is that of an answered read
-abbrev pub AreTold : {D : Type 0} → Run D → Type 0
-AreTold s = All (λ item. IsGot item → HasContent s item) s.journal
+-- the buffer of a read is as long as its blocks
+abbrev pub IsWhole : ℕ → Op → Type 0
+IsWhole size (Read e bytes) = length bytes ≡ e.count * size
+IsWhole size op = Unit {0}

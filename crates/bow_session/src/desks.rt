@@ -1,154 +1,197 @@
-// The parts of a session at work: the device, the requests to come, and what was done.
-ghost use Rattle.std.specs.Prelude.{◌≡◌, ◌⊎◌, ◌+◌, ◌<◌, ◌≤◌, ◌++◌, ◌∷◌, [], ℕ, length, Some, None, List};
-ghost use Rattle.bow_flat.specs.Flat.{Flat};
-ghost use Rattle.bow_session.specs.Lanes.{lane_lines};
-ghost use Rattle.bow_session.specs.Requests.{first_of};
-ghost use Rattle.bow_session.specs.Sessions.{HasPlayed, HasCounted, HasAdmitted, Records, turns_left};
+// The parts of a session at work: the device, the script, and what is kept beside them.
+ghost use Rattle.std.specs.Prelude.{◌≡◌, ◌+◌, ◌<◌, ◌≤◌, ℕ, List, length, true, None, Some};
+ghost use Rattle.std.specs.Option.{option_map};
+ghost use Rattle.bow_core.specs.Turns.{turn_of as machine_turn};
+ghost use Rattle.bow_history.specs.declared.items.Actor.{Actor};
+ghost use Rattle.bow_history.specs.declared.items.Actor.TheVariants.{Lane};
+ghost use Rattle.bow_history.specs.Ready.{is_actor_ready};
+ghost use Rattle.bow_history.specs.Sessions.{Turned, turn_of, IsActor};
+ghost use Rattle.bow_session.specs.Sessions.{plan_in, state_in};
+ghost use Rattle.bow_session.specs.Turns.{StepsBy};
+ghost use Rattle.bow_session.specs.Plays.{Plays};
+ghost use Rattle.bow_session.specs.Requests.{lanes_of};
+ghost use Rattle.bow_history.specs.Journal.{Plan};
+ghost use Rattle.bow_history.specs.Schedule.{actor_at, chosen, next_round};
+ghost use Rattle.std.specs.List.{list_all};
 
-use crate::journals::Item;
-use crate::reserved::Reserved;
-use bow_core::{Core, Step, Ticket, Turn};
+use crate::records::Records;
+use crate::seats::{Hand, are_over, first_block, is_from};
+use bow_core::{Core, Turn};
 use bow_disk::Disk;
+use bow_history::Actor;
+use bow_ranges::Ranges;
 use bow_script::Script;
-use bow_units::Op;
-use std::collections::VecDeque;
-
-// The request that waits: its ticket and its first block.
-#[derive(Clone, Copy, Debug)]
-pub(crate) struct Hand {
-    pub(crate) ticket: Ticket,
-    pub(crate) first: u64,
-}
+use bow_units::Draws;
 
 #[derive(Drop)]
-pub(crate) struct Desk<D: Disk> {
-    pub(crate) core: Core<D>,
+pub(crate) struct Desk<D: Disk, R: Ranges> {
+    pub(crate) core: Core<D, R>,
     pub(crate) script: Script,
-    pub(crate) pending: VecDeque<Op>,
-    pub(crate) hand: Option<Hand>,
-    pub(crate) answered: Reserved<Op>,
-    pub(crate) journal: Reserved<Item>,
-    pub(crate) moments: Reserved<u64>,
+    pub(crate) records: Records,
 }
 
-impl<D: Disk> Desk<D> {
+impl<D: Disk, R: Ranges + Drop> Desk<D, R> {
     ghost use Rattle.bow_session.specs.Desks.{Fits, run_of};
+    ghost use Rattle.bow_session.specs.Seats.{is_over};
 
-    // One step of the one lane.
-    pub(crate) fn step(&mut self)
-        requires fits { Fits self.old }
-        requires more { length self.old.answered.items < length (lane_lines self.old.script 0) }
-        ensures fits { Fits self.new }
-        ensures same { (self.new.script ≡ self.old.script) × (self.new.core.geometry ≡ self.old.core.geometry) × (self.new.core.phase ≡ self.old.core.phase) }
-        ensures played { (start : Flat) (first : D) → HasPlayed D.content D.moment D.left_since (run_of self.old) start first → HasPlayed D.content D.moment D.left_since (run_of self.new) start first }
-        ensures counted { (before : ℕ) → HasCounted (run_of self.old) before → HasCounted (run_of self.new) before }
-        ensures records { Records D.faults (run_of self.old) (run_of self.new) }
-        ensures faults { D.faults self.old.core.disk ≤ D.faults self.new.core.disk }
-        ensures admitted { (before : ℕ) → HasAdmitted (run_of self.old) before → HasAdmitted (run_of self.new) before }
-        ensures fewer { turns_left (run_of self.new) < turns_left (run_of self.old) }
+    // Whether the actor makes a step.
+    pub(crate) fn is_ready(&self, actor: Actor) -> bool
+        requires fits { Fits self.now }
+        ensures { result ≡ is_actor_ready (plan_in (run_of self.now)) (state_in (run_of self.now)) actor }
     {
-        match self.hand {
-            Some(hand) => self.go_on(hand),
-            None => self.admit_next(),
+        match actor {
+            Actor::Lane(lane) => self.is_lane_ready(lane as usize),
+            Actor::Worker => self.core.ready(Turn::Worker),
+            Actor::Command => self.core.ready(Turn::Command),
         }
     }
 
-    // Takes the next request into the device.
-    fn admit_next(&mut self)
-        requires fits { Fits self.old }
-        requires none { self.old.hand ≡ None }
-        requires more { length self.old.answered.items < length (lane_lines self.old.script 0) }
-        ensures fits { Fits self.new }
-        ensures same { (self.new.script ≡ self.old.script) × (self.new.core.geometry ≡ self.old.core.geometry) × (self.new.core.phase ≡ self.old.core.phase) }
-        ensures played { (start : Flat) (first : D) → HasPlayed D.content D.moment D.left_since (run_of self.old) start first → HasPlayed D.content D.moment D.left_since (run_of self.new) start first }
-        ensures counted { (before : ℕ) → HasCounted (run_of self.old) before → HasCounted (run_of self.new) before }
-        ensures records { Records D.faults (run_of self.old) (run_of self.new) }
-        ensures faults { D.faults self.old.core.disk ≤ D.faults self.new.core.disk }
-        ensures admitted { (before : ℕ) → HasAdmitted (run_of self.old) before → HasAdmitted (run_of self.new) before }
-        ensures fewer { turns_left (run_of self.new) < turns_left (run_of self.old) }
+    // A lane does whose request the device can carry on, or whose next request is of the present section.
+    fn is_lane_ready(&self, lane: usize) -> bool
+        requires fits { Fits self.now }
+        ensures { result ≡ is_actor_ready (plan_in (run_of self.now)) (state_in (run_of self.now)) (Lane lane) }
     {
-        if let Some(op) = self.pending.pop_front() {
-            let first = first_block(&op);
-            let ticket = self.core.admit(op);
-            self.hand = Some(Hand { ticket, first });
+        if lane >= self.records.seats.len() {
+            return false;
+        }
+        let seat = &self.records.seats[lane];
+        if let Some(hand) = seat.hand {
+            return self.core.ready(Turn::Map(hand.ticket));
+        }
+        match seat.section() {
+            Some(section) => is_from(&self.records.seats, section),
+            None => false,
         }
     }
 
-    // One step of the request that waits.
-    fn go_on(&mut self, hand: Hand)
-        requires fits { Fits self.old }
-        requires some { self.old.hand ≡ Some hand }
+    // Makes steps until all requests are answered, each of the actor who is drawn.
+    pub(crate) fn finish(&mut self, number: u64)
+        requires { Fits self.old }
         ensures fits { Fits self.new }
-        ensures same { (self.new.script ≡ self.old.script) × (self.new.core.geometry ≡ self.old.core.geometry) × (self.new.core.phase ≡ self.old.core.phase) }
-        ensures played { (start : Flat) (first : D) → HasPlayed D.content D.moment D.left_since (run_of self.old) start first → HasPlayed D.content D.moment D.left_since (run_of self.new) start first }
-        ensures counted { (before : ℕ) → HasCounted (run_of self.old) before → HasCounted (run_of self.new) before }
-        ensures records { Records D.faults (run_of self.old) (run_of self.new) }
-        ensures faults { D.faults self.old.core.disk ≤ D.faults self.new.core.disk }
-        ensures admitted { (before : ℕ) → HasAdmitted (run_of self.old) before → HasAdmitted (run_of self.new) before }
-        ensures fewer { turns_left (run_of self.new) < turns_left (run_of self.old) }
+        ensures over { list_all is_over self.new.records.seats.items ≡ true }
+        ensures plays { (turns : List Turned) × Plays D.stated D.content D.moment D.left_since D.faults number (run_of
+            self.old) turns (run_of self.new) }
     {
-        let number = self.number();
-        match self.core.step(Turn::Map(hand.ticket)) {
-            Step::Wrote { index, .. } => {
-                let block = hand.first + index as u64;
-                self.note(Item::Wrote {
-                    lane: 0,
-                    number,
-                    block,
-                });
-            }
-            Step::Got { index, .. } => {
-                let block = hand.first + index as u64;
-                self.note(Item::Got {
-                    lane: 0,
-                    number,
-                    block,
-                });
-            }
-            Step::Answered { op, outcome, .. } => {
-                self.hand = None;
-                self.answered.push(op);
-                self.note(Item::Answered {
-                    lane: 0,
-                    number,
-                    outcome,
-                });
-            }
-            Step::Idle | Step::Moved => {}
+        let mut draws = Draws::new(number);
+        while !are_over(&self.records.seats) {
+            let actors = self.records.seats.len() as u32 + 2;
+            let drawn = draws.draw(actors);
+            let actor = self.chosen(drawn);
+            self.step(actor);
         }
     }
 
-    // The number of the next unanswered request.
-    pub(crate) fn number(&self) -> u32
-        requires { length self.now.answered.items ≤ 65536 }
-        ensures { result ≡ length self.now.answered.items }
+    // The first ready actor from this one on, going round once.
+    fn chosen(&self, drawn: u32) -> Actor
+        requires fits { Fits self.now }
+        requires inside { drawn < lanes_of self.now.script + 2 }
+        ensures { result ≡ chosen (plan_in (run_of self.now)) (state_in (run_of self.now)) drawn }
     {
-        self.answered.len() as u32
+        let lanes = self.records.seats.len() as u32;
+        let mut left = lanes + 2;
+        let mut number = drawn;
+        while left > 0 {
+            let actor = actor_at(lanes, number);
+            if self.is_ready(actor) {
+                return actor;
+            }
+            number = after_actor(lanes, number);
+            left -= 1;
+        }
+        actor_at(lanes, number)
     }
 
-    // One more item, with the count of calls right after it.
-    fn note(&mut self, item: Item)
-        requires journal { 0 < self.old.journal.room }
-        requires moments { 0 < self.old.moments.room }
-        ensures journal { self.new.journal.items ≡ self.old.journal.items ++ item ∷ [] }
-        ensures moments { self.new.moments.items ≡ self.old.moments.items ++ self.old.core.calls ∷ [] }
-        ensures rooms { (self.old.journal.room ≤ self.new.journal.room + 1) × (self.old.moments.room ≤ self.new.moments.room + 1) }
-        ensures core { self.new.core ≡ self.old.core }
-        ensures script { self.new.script ≡ self.old.script }
-        ensures pending { self.new.pending ≡ self.old.pending }
-        ensures hand { self.new.hand ≡ self.old.hand }
-        ensures answered { self.new.answered ≡ self.old.answered }
+    // One step of an actor that is ready.
+    pub(crate) fn step(&mut self, actor: Actor)
+        requires fits { Fits self.old }
+        requires ready { is_actor_ready (plan_in (run_of self.old)) (state_in (run_of self.old)) actor ≡ true }
+        ensures fits { Fits self.new }
+        ensures turn { StepsBy D.stated D.content D.moment D.left_since D.faults (run_of self.old) actor (run_of
+            self.new) }
     {
-        self.journal.push(item);
-        self.moments.push(self.core.calls());
+        match actor {
+            Actor::Lane(lane) => self.step_lane(lane as usize),
+            Actor::Worker => self.go_on(Turn::Worker),
+            Actor::Command => self.go_on(Turn::Command),
+        }
+    }
+
+    // The lane's request goes on, or its next one is taken in.
+    fn step_lane(&mut self, lane: usize)
+        requires fits { Fits self.old }
+        requires ready { is_actor_ready (plan_in (run_of self.old)) (state_in (run_of self.old)) (Lane lane) ≡ true }
+        ensures fits { Fits self.new }
+        ensures turn { StepsBy D.stated D.content D.moment D.left_since D.faults (run_of self.old) (Lane lane) (run_of
+            self.new) }
+    {
+        let seat = &self.records.seats[lane];
+        match seat.hand {
+            Some(hand) => self.go_on(Turn::Map(hand.ticket)),
+            None => self.admit_next(lane),
+        }
+    }
+
+    // The device takes the lane's next request in.
+    fn admit_next(&mut self, lane: usize)
+        requires fits { Fits self.old }
+        requires ready { is_actor_ready (plan_in (run_of self.old)) (state_in (run_of self.old)) (Lane lane) ≡ true }
+        requires free { (state_in (run_of self.old)).hand lane ≡ None }
+        ensures fits { Fits self.new }
+        ensures turn { StepsBy D.stated D.content D.moment D.left_since D.faults (run_of self.old) (Lane lane) (run_of
+            self.new) }
+    {
+        let seat = &mut self.records.seats[lane];
+        if let Some(asked) = seat.pending.pop_front() {
+            let section = asked.section;
+            let first = first_block(&asked.op);
+            let ticket = self.core.admit(asked.op);
+            seat.hand = Some(Hand {
+                ticket,
+                section,
+                first,
+            });
+        }
+    }
+
+    // The device makes one step, and what it told is noted.
+    fn go_on(&mut self, turn: Turn)
+        requires fits { Fits self.old }
+        requires actor { (actor : Actor) × IsActor (plan_in (run_of self.old)) (state_in (run_of self.old)) actor
+            × (turn_of (state_in (run_of self.old)) actor ≡ Some (machine_turn turn)) }
+        ensures fits { Fits self.new }
+        ensures turn { (actor : Actor) → IsActor (plan_in (run_of self.old)) (state_in (run_of self.old)) actor
+            → turn_of (state_in (run_of self.old)) actor ≡ Some (machine_turn turn)
+            → StepsBy D.stated D.content D.moment D.left_since D.faults (run_of self.old) actor (run_of self.new) }
+    {
+        let told = self.core.step(turn);
+        let calls = self.core.calls();
+        self.records.note(told, calls);
     }
 }
 
-pub(crate) fn first_block(op: &Op) -> u64
-    ensures { result ≡ first_of op.now }
+// The actor of a number: the lanes, then the worker, then the commands.
+fn actor_at(lanes: u32, number: u32) -> Actor
+    requires { lanes ≤ 16 }
+    ensures { (plan : Plan) → plan.lanes ≡ lanes → result ≡ actor_at plan number }
 {
-    match op {
-        Op::Read(extent, _) | Op::Write(extent, _) => extent.first,
-        Op::Discard(_) | Op::Flush | Op::Prepare | Op::Commit => 0,
+    if number < lanes {
+        return Actor::Lane(number);
     }
+    if number == lanes {
+        return Actor::Worker;
+    }
+    Actor::Command
+}
+
+// The number of the next actor, going round.
+fn after_actor(lanes: u32, number: u32) -> u32
+    requires lanes { lanes ≤ 16 }
+    requires inside { number ≤ lanes + 1 }
+    ensures next { (plan : Plan) → plan.lanes ≡ lanes → result ≡ next_round plan number }
+    ensures inside { result ≤ lanes + 1 }
+{
+    if number == lanes + 1 {
+        return 0;
+    }
+    number + 1
 }

@@ -1,18 +1,18 @@
-//! A session: the requests of a script, played step by step against a device, and the journal of what
-//! was done.
+//! A session: the requests of a script, in lanes beside one another, played step by step against a device, and the
+//! journal of what was done.
 #![tactic(auto)]
 
 mod desks;
-mod journals;
-mod laws;
 mod loading;
 mod payloads;
+mod records;
 mod reserved;
+mod run_laws;
+mod seats;
 mod sessions;
 #[cfg(test)]
 mod tests;
 
-pub use journals::{Actor, Item};
-pub use laws::served_law;
-pub use payloads::op_of;
+pub use bow_history::{Actor, Item};
+pub use run_laws::run_law;
 pub use sessions::Session;

@@ -1,88 +1,166 @@
 // Takes the memory of a whole run.
-ghost use Rattle.std.specs.Prelude.{◌≡◌, ◌+◌, ◌*◌, ◌<◌, ◌≤◌, ◌^◌, [], length, IfOk};
-ghost use Rattle.std.specs.List.{sum_by, AllByRecursion};
+ghost use Rattle.std.specs.Prelude.{◌≡◌, ◌+◌, ◌<◌, ◌≤◌, ◌^◌, ℕ, List, length, IfOk, All};
+ghost use Rattle.std.specs.List.{sum_by};
 ghost use Rattle.bow_units.specs.Sizes.{IsValid};
-ghost use Rattle.bow_script.specs.Grammar.{IsAccepted, blocks_of};
-ghost use Rattle.bow_script.specs.Scripts.{script_of};
-ghost use Rattle.bow_session.specs.Lanes.{lane_lines};
-ghost use Rattle.bow_session.specs.Requests.{AreFor};
+ghost use Rattle.bow_script.specs.Grammar.{IsFitting};
+ghost use Rattle.bow_script.specs.Scripts.{IsWithinLimits, IsWellFormed};
+ghost use Rattle.bow_script.specs.declared.scripts.Line.{Line};
+ghost use Rattle.bow_history.specs.Ends.{over_lanes};
+ghost use Rattle.bow_session.specs.Loading.{line_items, lane_items, AreFirst, AreThere, IsNewSeat, AreNewSeats, AreNewRecords};
+ghost use Rattle.bow_session.specs.Requests.{lanes_of, section_lines, plan_of, requests_in};
 
-use crate::journals::Item;
 use crate::payloads::op_of;
+use crate::records::Records;
 use crate::reserved::Reserved;
-use bow_script::{Line, Script};
-use bow_units::{Geometry, NoMemory, Op};
+use crate::seats::{Asked, Seat};
+use bow_script::{Line, Script, Section};
+use bow_units::{Geometry, NoMemory};
 use std::alloc::Global;
 use std::collections::VecDeque;
 
-/// The requests of a lane, and room for all that comes of them.
-#[derive(Drop)]
-pub(crate) struct Memory {
-    pub(crate) pending: VecDeque<Op>,
-    pub(crate) answered: Reserved<Op>,
-    pub(crate) journal: Reserved<Item>,
-    pub(crate) moments: Reserved<u64>,
-}
-
-impl Memory {
-    pub(crate) fn take(
-        alloc: Global,
-        lines: &[Line],
-        geometry: Geometry,
-    ) -> Result<Memory, NoMemory>
-        requires valid { IsValid geometry }
-        requires accepted { AllByRecursion IsAccepted lines.now }
-        requires requests { length lines.now ≤ 65536 }
-        requires blocks { sum_by blocks_of lines.now ≤ 65536 }
-        ensures pending { IfOk result (λ m. AreFor geometry lines.now m.pending.items) }
-        ensures empty { IfOk result (λ m. (m.answered.items ≡ []) × (m.journal.items ≡ []) × (m.moments.items ≡ [])) }
-        ensures answers { IfOk result (λ m. m.answered.room ≡ length lines.now) }
-        ensures items { IfOk result (λ m. m.journal.room ≡ sum_by (λ line. blocks_of line + 1) lines.now) }
-        ensures moments { IfOk result (λ m. m.moments.room ≡ sum_by (λ line. blocks_of line + 1) lines.now) }
-    {
-        let items = most_items(lines);
-        Ok(Memory {
-            pending: requests(alloc, lines, geometry)?,
-            answered: Reserved::with_room(alloc, lines.len())?,
-            journal: Reserved::with_room(alloc, items)?,
-            moments: Reserved::with_room(alloc, items)?,
-        })
-    }
-}
-
-// The lines of the one lane of a script.
-pub(crate) fn only_lane(script: &Script) -> &[Line]
-    requires { script.now ≡ script_of (lane_lines script.now 0) }
-    ensures { result.now ≡ lane_lines script.now 0 }
-{
-    if script.sections.is_empty() {
-        return &[];
-    }
-    let section = &script.sections[0];
-    if section.lanes.is_empty() {
-        return &[];
-    }
-    let lane = &section.lanes[0];
-    &lane.lines
-}
-
-fn requests(alloc: Global, lines: &[Line], geometry: Geometry) -> Result<VecDeque<Op>, NoMemory>
+// The lanes of a script with their requests, and room for all that comes of them.
+pub(crate) fn take(alloc: Global, script: &Script, geometry: Geometry) -> Result<Records, NoMemory>
+    requires limits { IsWithinLimits script.now }
+    requires numbers { IsWellFormed script.now }
     requires valid { IsValid geometry }
-    requires accepted { AllByRecursion IsAccepted lines.now }
-    ensures { IfOk result (λ ops. AreFor geometry lines.now ops.items) }
+    ensures { IfOk result (λ r. AreNewRecords (plan_of geometry script.now) script.now r) }
 {
-    let mut ops = VecDeque::with_capacity(alloc, lines.len())?;
-    for line in lines {
-        ops.push_back(op_of(alloc, line, geometry)?)?;
-    }
-    Ok(ops)
+    let lanes = lanes_of(script);
+    let seats = take_seats(alloc, script, lanes, geometry)?;
+    let items = most_items(script, lanes);
+    Ok(Records {
+        seats,
+        journal: Reserved::with_room(alloc, items)?,
+        moments: Reserved::with_room(alloc, items)?,
+    })
 }
 
-// How many items the requests of these lines give at most: one a block, and the answer.
-fn most_items(lines: &[Line]) -> usize
-    requires requests { length lines.now ≤ 65536 }
-    requires blocks { sum_by blocks_of lines.now ≤ 65536 }
-    ensures { result ≡ sum_by (λ line. blocks_of line + 1) lines.now }
+// The lanes of a script before their first step.
+fn take_seats(
+    alloc: Global,
+    script: &Script,
+    lanes: usize,
+    geometry: Geometry,
+) -> Result<Vec<Seat>, NoMemory>
+    requires limits { IsWithinLimits script.now }
+    requires numbers { IsWellFormed script.now }
+    requires valid { IsValid geometry }
+    ensures new { IfOk result (λ v. AreNewSeats (plan_of geometry script.now) (requests_in script.now) v.items) }
+    ensures count { IfOk result (λ v. length v.items ≡ lanes) }
+{
+    let mut seats = Vec::new(alloc);
+    for lane in 0..lanes {
+        seats.push(seat_of(alloc, script, lane, geometry)?)?;
+    }
+    Ok(seats)
+}
+
+// The largest number of lanes in a section.
+fn lanes_of(script: &Script) -> usize
+    ensures { result ≡ lanes_of script.now }
+{
+    let mut lanes = 0;
+    for section in &script.sections {
+        lanes = lanes.max(section.lanes.len());
+    }
+    lanes
+}
+
+// The lines of a lane in a section.
+fn lines_of(section: &Section, lane: usize) -> &[Line]
+    ensures { result.now ≡ section_lines section.now lane }
+{
+    if lane < section.lanes.len() {
+        let lane = &section.lanes[lane];
+        &lane.lines
+    } else {
+        &[]
+    }
+}
+
+// A lane before its first step.
+fn seat_of(
+    alloc: Global,
+    script: &Script,
+    lane: usize,
+    geometry: Geometry,
+) -> Result<Seat, NoMemory>
+    requires limits { IsWithinLimits script.now }
+    requires numbers { IsWellFormed script.now }
+    requires valid { IsValid geometry }
+    ensures { IfOk result (λ seat. IsNewSeat (plan_of geometry script.now) (requests_in script.now lane) lane seat) }
+{
+    let mut pending = VecDeque::new(alloc);
+    let mut number = 0u32;
+    for section in &script.sections {
+        add_requests(
+            alloc,
+            &mut pending,
+            lines_of(section, lane),
+            number,
+            geometry,
+        )?;
+        number += 1;
+    }
+    let answered = Reserved::with_room(alloc, pending.len())?;
+    Ok(Seat {
+        pending,
+        hand: None,
+        answered,
+    })
+}
+
+// The requests of these lines, which stand in the section of this number.
+fn add_requests(
+    alloc: Global,
+    pending: &mut VecDeque<Asked>,
+    lines: &[Line],
+    section: u32,
+    geometry: Geometry,
+) -> Result<(), NoMemory>
+    requires numbers { All IsFitting lines.now }
+    requires valid { IsValid geometry }
+    ensures count { IfOk result (λ u. length pending.new.items ≡ length pending.old.items + length lines.now) }
+    ensures next { IfOk result (λ u. (script : List (List (List Line))) (lane : ℕ)
+        → AreThere script lane (length pending.old.items) section lines.now
+        → AreFirst (plan_of geometry script) lane pending.old.items
+        → AreFirst (plan_of geometry script) lane pending.new.items) }
+{
+    for line in lines {
+        let op = op_of(alloc, line, geometry)?;
+        pending.push_back(Asked { section, op })?;
+    }
+    Ok(())
+}
+
+// How many items a script gives at most: one a block, and the answer.
+fn most_items(script: &Script, lanes: usize) -> usize
+    requires limits { IsWithinLimits script.now }
+    requires lanes { lanes ≤ 16 }
+    ensures { result ≡ over_lanes (lane_items script.now) lanes }
+{
+    let mut items = 0;
+    for lane in 0..lanes {
+        items += items_in_lane(script, lane);
+    }
+    items
+}
+
+fn items_in_lane(script: &Script, lane: usize) -> usize
+    requires limits { IsWithinLimits script.now }
+    ensures is { result ≡ lane_items script.now lane }
+    ensures few { result ≤ 131072 }
+{
+    let mut items = 0;
+    for section in &script.sections {
+        items += items_of(lines_of(section, lane));
+    }
+    items
+}
+
+fn items_of(lines: &[Line]) -> usize
+    requires { sum_by line_items lines.now ≤ 131072 }
+    ensures { result ≡ sum_by line_items lines.now }
 {
     let mut items = 0;
     for line in lines {

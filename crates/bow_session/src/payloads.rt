@@ -1,26 +1,25 @@
 // The requests of a script's lines, with their buffers.
 ghost use Rattle.std.specs.Prelude.{◌≡◌, ◌+◌, ◌*◌, ◌-◌, ◌<◌, ◌≤◌, ◌^◌, ◌++◌, ℕ, List, length, replicate, IfOk};
 ghost use Rattle.bow_units.specs.Sizes.{IsValid, IsBlockSize};
-ghost use Rattle.bow_script.specs.Grammar.{IsFitting, IsReadable};
-ghost use Rattle.bow_core.specs.Requests.{IsAdmissible};
-ghost use Rattle.bow_session.specs.Lanes.{written, patterns, request_of};
-ghost use Rattle.bow_session.specs.Requests.{bare, first_of};
+ghost use Rattle.bow_script.specs.Grammar.{IsFitting};
+ghost use Rattle.bow_machine.specs.MemoryIsSound.{IsAdmissible};
+ghost use Rattle.bow_machine.specs.Steps.{extent_of};
+ghost use Rattle.bow_history.specs.Sessions.{IsFor};
+ghost use Rattle.bow_session.specs.Requests.{written, patterns, request_of};
 
 use bow_script::Line;
 use bow_units::{Extent, Geometry, NoMemory, Op, Payload, fill_pattern};
 use std::alloc::{AllocError, Global};
 
-/// The request of a line, for a device of this geometry. A `write` has the patterns of its blocks, or
-/// zeros where one of them is on no device; a `writehex` has its bytes and then zeros; a read has a
-/// buffer of zeros.
-///
-/// Conditions: a valid geometry, and numbers within the limits of a script.
-pub fn op_of(alloc: Global, line: &Line, geometry: Geometry) -> Result<Op, NoMemory>
+// The request of a line, for a device of this geometry. A `write` has the patterns of its blocks, or
+// zeros where one of them is on no device; a `writehex` has its bytes and then zeros; a read has a
+// buffer of zeros.
+pub(crate) fn op_of(alloc: Global, line: &Line, geometry: Geometry) -> Result<Op, NoMemory>
     requires numbers { IsFitting line.now }
     requires valid { IsValid geometry }
-    ensures request { IfOk result (λ op. bare op ≡ request_of geometry.block_size line.now) }
-    ensures admissible { IsReadable line.now → IfOk result (λ op. IsAdmissible geometry op) }
-    ensures low { IfOk result (λ op. first_of op < 2 ^ 32) }
+    ensures is { IfOk result (λ op. IsFor geometry (request_of geometry.block_size line.now) op) }
+    ensures admissible { IfOk result (λ op. IsAdmissible geometry op) }
+    ensures low { IfOk result (λ op. (extent_of op).first < 2 ^ 32) }
 {
     let size = geometry.block_size;
     match line {

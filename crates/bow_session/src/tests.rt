@@ -2,21 +2,22 @@
 use crate::{Actor, Item, Session};
 use bow_core::Core;
 use bow_disk::{FailMode, MemDisk};
+use bow_ranges::RangeList;
 use bow_script::read_script;
-use bow_units::{Geometry, NoMemory, Outcome, Phase};
+use bow_units::{Geometry, NoMemory, Outcome};
 use std::alloc::Global;
 use std::test::Fail;
 
-// A session on a disk of 8 blocks whose fifth call fails. Its opening makes the first one.
-fn loaded(alloc: Global, text: &[u8]) -> Result<Session<MemDisk>, NoMemory> {
+// A session on a disk of 8 blocks whose fifth call fails. Its opening makes the first two.
+fn loaded(alloc: Global, text: &[u8]) -> Result<Session<MemDisk, RangeList>, NoMemory> {
     let sizes = Geometry {
         block_size: 512,
         blocks: 8,
     };
     let image = [7; 4096].to_vec(alloc)?;
     let mut disk = MemDisk::new(alloc, sizes, image, 4)?;
-    disk.fail_at(5, FailMode::Lost)?;
-    let Ok(core) = Core::open(disk) else {
+    disk.fail_at(6, FailMode::Lost)?;
+    let Ok(core) = Core::open(alloc, disk, 16) else {
         return Err(NoMemory);
     };
     let Ok(script) = read_script(alloc, text) else {
@@ -28,25 +29,25 @@ fn loaded(alloc: Global, text: &[u8]) -> Result<Session<MemDisk>, NoMemory> {
     }
 }
 
-fn wrote(number: u32, block: u64) -> Item {
+fn wrote(lane: u32, number: u32, block: u64) -> Item {
     Item::Wrote {
-        lane: 0,
+        lane,
         number,
         block,
     }
 }
 
-fn got(number: u32, block: u64) -> Item {
+fn got(lane: u32, number: u32, block: u64) -> Item {
     Item::Got {
-        lane: 0,
+        lane,
         number,
         block,
     }
 }
 
-fn answered(number: u32, outcome: Outcome) -> Item {
+fn answered(lane: u32, number: u32, outcome: Outcome) -> Item {
     Item::Answered {
-        lane: 0,
+        lane,
         number,
         outcome,
     }
@@ -58,13 +59,13 @@ fn the_journal_of_a_small_script(rt: HostRuntime) -> Result<(), Fail> {
     let mut session = loaded(rt.alloc(), text)?;
     session.finish(1);
     let wanted = [
-        (wrote(0, 3), 2),
-        (wrote(0, 4), 3),
-        (answered(0, Outcome::Done), 3),
-        (got(1, 3), 4),
-        (answered(1, Outcome::Data), 4),
-        (answered(2, Outcome::OutOfRange), 4),
-        (answered(3, Outcome::DiskFault { done: 0 }), 5),
+        (wrote(0, 0, 3), 3),
+        (wrote(0, 0, 4), 4),
+        (answered(0, 0, Outcome::Done), 4),
+        (got(0, 1, 3), 5),
+        (answered(0, 1, Outcome::Data), 5),
+        (answered(0, 2, Outcome::OutOfRange), 5),
+        (answered(0, 3, Outcome::DiskFault { done: 0 }), 6),
     ];
     assert_eq!(rt; session.journal().len(), wanted.len());
     for i in 0..session.journal().len() {
@@ -74,23 +75,23 @@ fn the_journal_of_a_small_script(rt: HostRuntime) -> Result<(), Fail> {
     }
     let core = session.close();
     assert_eq!(rt; core.admitted(), 4);
-    assert_eq!(rt; core.spare(), 1);
+    assert_eq!(rt; core.spare(), 16);
     Ok(())
 }
 
 #[test]
-fn one_read_step_by_step(rt: HostRuntime) -> Result<(), Fail> {
-    let mut session = loaded(rt.alloc(), b"write 3 1 7\nread 3 1\n")?;
-    assert_eq!(rt; session.lanes(), 1);
-    assert_eq!(rt; session.geometry().blocks, 8);
-    assert_eq!(rt; session.status().phase, Phase::Trim);
-    assert!(rt; !session.step(Actor::Worker));
-    assert!(rt; !session.ready(Actor::Lane(1)));
-    for items in [0, 1, 2, 2, 3, 4] {
-        assert!(rt; !session.over());
-        assert!(rt; session.step(Actor::Lane(0)));
-        assert_eq!(rt; session.journal().len(), items);
+fn a_section_begins_after_the_last_one(rt: HostRuntime) -> Result<(), Fail> {
+    let mut session = loaded(
+        rt.alloc(),
+        b"write 3 1 7\nlane\nread 5 1\nsection\nread 3 1\n",
+    )?;
+    assert_eq!(rt; session.lanes(), 2);
+    for actor in [Actor::Lane(0), Actor::Lane(0), Actor::Lane(0)] {
+        assert!(rt; session.step(actor));
     }
+    assert!(rt; !session.step(Actor::Lane(0)), "lane 1 is not answered");
+    assert!(rt; !session.step(Actor::Worker));
+    session.finish(5);
     assert!(rt; session.over());
     assert_eq!(rt; session.answered(0), 2);
     assert!(rt; session.data(0, 0).is_none(), "a write has no data");

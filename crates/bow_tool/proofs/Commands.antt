@@ -1,7 +1,7 @@
 -- How the answers of the commands come together.
 use Rattle.std.proofs.Common.{◌≡◌, ◌⊎◌, inl, inr, ℕ, ◌+◌, ◌≤◌, List, [], ◌∷◌, ◌++◌, length, Option, None, Some, Result, Ok, Err, IfOk, IfErr, refl, ap, ◌∙◌, subst, arith, length-append, append-nil, String}
 use Rattle.std.specs.declared.alloc.Global.{Global}
-use Rattle.bow_script.specs.Grammar.{IsScriptText, spelling}
+use Rattle.bow_plain_script.specs.Grammar.{IsScriptText, spelling}
 use Rattle.bow_chain.specs.Contents.{contents_of}
 use Rattle.bow_chain.specs.Laws.{FaultyIsNotSound}
 use Rattle.bow_tool.specs.declared.words.Command.{Command}

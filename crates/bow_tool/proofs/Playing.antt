@@ -9,22 +9,23 @@ use Rattle.bow_disk.specs.Disk.{Content, IsCrash, IsSettledOn, SettledLaw}
 use Rattle.bow_units.specs.declared.requests.Phase.{Phase}
 use Rattle.bow_units.specs.declared.requests.Phase.TheVariants.{Trim}
 use Rattle.bow_flat.specs.Flat.{Flat, opening}
-use Rattle.bow_core.specs.Standing.{StandsFor}
-use Rattle.bow_session.specs.declared.journals.Item.{Item}
-use Rattle.bow_session.specs.Journal.{Asked, Place, beginning, Legal}
-use Rattle.bow_session.specs.Lanes.{IsComplete}
-use Rattle.bow_session.specs.Cuts.{Cuts, CutsStand, IsOnTheWay, IsOpenedOn}
-use Rattle.bow_session.specs.Moments.{Explains, faults_in, moments_from}
-use Rattle.bow_session.specs.Served.{IsServed, ServedLaw}
-use Rattle.bow_session.specs.Sessions.{asked_of}
+use Rattle.bow_plain.specs.Standing.{StandsFor}
+use Rattle.bow_plain_session.specs.declared.journals.Item.{Item}
+use Rattle.bow_plain_session.specs.Journal.{Asked, Place, beginning, Legal}
+use Rattle.bow_plain_session.specs.Lanes.{IsComplete}
+use Rattle.bow_plain_session.specs.Cuts.{Cuts, CutsStand, IsOnTheWay, IsOpenedOn}
+use Rattle.bow_plain_session.specs.Moments.{Explains, faults_in, moments_from}
+use Rattle.bow_plain_session.specs.Served.{IsServed, ServedLaw}
+use Rattle.bow_plain_session.specs.Sessions.{asked_of}
 use Rattle.bow_report.specs.Texts.{transcript_text}
-use Rattle.bow_core.specs.Clauses.{HoldsImage}
-use Rattle.bow_core.specs.Cuts.{AddsNoCut, Counted, MomentCounted, IsOneCall}
-use Rattle.bow_core.specs.Views.{View}
-use Rattle.bow_script.specs.Grammar.{IsAccepted}
+use Rattle.bow_plain.specs.Clauses.{HoldsImage}
+use Rattle.bow_disk.specs.Moments.{AddsNoCut}
+use Rattle.bow_plain.specs.Cuts.{Counted, MomentCounted, IsOneCall}
+use Rattle.bow_plain.specs.Views.{View}
+use Rattle.bow_plain_script.specs.Grammar.{IsAccepted}
 use Rattle.bow_units.specs.Causes.{Rose}
-use Rattle.bow_script.specs.declared.scripts.Line.{Line}
-use Rattle.bow_script.specs.Scripts.{script_of}
+use Rattle.bow_plain_script.specs.declared.scripts.Line.{Line}
+use Rattle.bow_plain_script.specs.Scripts.{script_of}
 use Rattle.bow_tool.specs.declared.refusals.Refusal.{Refusal}
 use Rattle.bow_tool.specs.declared.refusals.Refusal.TheVariants.{NoMemory}
 use Rattle.bow_tool.specs.Outside.{Outside, outside}
@@ -116,9 +117,16 @@ same_text g g' script script' buffers journal text is_g is_script is = is ∙ ap
 
 -- over a disk that is the same, or was only opened, no request was begun
 module _ {D : Type 0} (content : D → Option Content) (moment : D → ℕ) (left_since : D → ℕ → List (List ℕ) → Type 0) (left left' : Option (List ℕ)) (source source' faults faults' : ℕ) (stated stated' : Option Geometry) (a b : D) (c : Content) (is : content a ≡ Some c) where
-  pub keeps_opened : HoldsImage c.now (content b) → moment b ≤ moment a + 1 → AddsNoCut (content a) (moment a) (left_since a) (left_since b)
+  pub keeps_opened : HoldsImage c.now (content b) → moment b ≤ moment a + 1 → AddsNoCut content moment left_since a b
       → KeepsImage (outside left source stated (content a) (moment a) (left_since a) faults) (outside left' source' stated' (content b) (moment b) (left_since b) faults') c
-  keeps_opened image calls adds = record { image = image; calls = calls; cuts = subst (λ o. AddsNoCut o (moment a) (left_since a) (left_since b)) is adds }
+  keeps_opened image calls adds = record {
+    image = image;
+    calls = calls;
+    cuts = λ t cut early left. elim ((adds c is).only t cut early left) [
+      | inl before ↦ before
+      | inr none ↦ absurd none
+    ];
+  }
 
   pub keeps_same : b ≡ a → KeepsImage (outside left source stated (content a) (moment a) (left_since a) faults) (outside left' source' stated' (content b) (moment b) (left_since b) faults') c
   keeps_same same = rw same (record { image = rw is refl; calls = omega arith; cuts = λ t cut early since. since })
@@ -134,10 +142,13 @@ counted_one (Some c) image before now held counted = counted
 
 -- the device was opened on a disk that tells its content
 pub opened_on : {D : Type 0} (content : D → Option Content) (moment : D → ℕ) (left_since : D → ℕ → List (List ℕ) → Type 0) (a : D) (core : View D) (c : Content) → content a ≡ Some c → core.calls ≡ 1
-    → HoldsImage c.now (content core.disk) → MomentCounted 1 (content core.disk) (moment a) (moment core.disk) → AddsNoCut (content a) (moment a) (left_since a) (left_since core.disk) → IsOpenedOn moment left_since a core
+    → HoldsImage c.now (content core.disk) → MomentCounted 1 (content core.disk) (moment a) (moment core.disk) → AddsNoCut content moment left_since a core.disk → IsOpenedOn moment left_since a core
 opened_on content moment left_since a core c is calls held counted adds = record {
   counted = subst (λ n. Counted n (moment a) (moment core.disk)) (sym calls) (counted_one (content core.disk) c.now (moment a) (moment core.disk) held counted);
-  early = λ cut left. subst (λ o. AddsNoCut o (moment a) (left_since a) (left_since core.disk)) is adds (moment a) cut (omega arith) left;
+  early = λ cut left. elim ((adds c is).only (moment a) cut (omega arith) left) [
+    | inl before ↦ before
+    | inr none ↦ absurd none
+  ];
 }
 
 pub one_call : (content : Option Content) (image : List (List ℕ)) (before now : ℕ) → HoldsImage image content → IsOneCall content before now → now ≤ before + 1

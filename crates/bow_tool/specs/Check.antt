@@ -1,5 +1,5 @@
 -- What a check did: what it says, and why it was refused.
-use Rattle.std.specs.Prelude.{◌≡◌, ◌⊎◌, ℕ, List, ◌∷◌, ◌++◌, map, codes, Option, Some}
+use Rattle.std.specs.Prelude.{◌≡◌, ◌⊎◌, ℕ, ◌≤◌, List, ◌∷◌, ◌++◌, map, codes, Option, Some}
 use Rattle.bow_units.specs.declared.sizes.Geometry.{Geometry}
 use Rattle.bow_units.specs.Sizes.{IsValid}
 use Rattle.bow_units.specs.Causes.{Rose}
@@ -9,7 +9,6 @@ use Rattle.bow_log.specs.Generations.{Generation, fields_of}
 use Rattle.bow_chain.specs.Contents.{Contents, contents_of}
 use Rattle.bow_chain.specs.Sound.{IsSound}
 use Rattle.bow_chain.specs.Faults.{IsFirstFault}
-use Rattle.bow_chain.specs.Reads.{AddsNoCut}
 use Rattle.bow_chain.specs.declared.faults.ChainFault.{ChainFault}
 use Rattle.bow_chain.specs.declared.faults.ChainFault.TheVariants as chains
 use Rattle.bow_report.specs.Chains.{chain_text}
@@ -17,13 +16,19 @@ use Rattle.bow_tool.specs.declared.refusals.Refusal.{Refusal}
 use Rattle.bow_tool.specs.declared.refusals.Refusal.TheVariants.{DiskFault, BadChain, NoMemory, BadGeometry}
 use Rattle.bow_tool.specs.Outside.{Outside}
 
+-- Time goes on, and what a cut since an earlier moment leaves now is what it might have left before.
+pub record LeavesTheSame (old new : Outside) : Type 0 where
+  pub time : old.moment ≤ new.moment
+  pub only : (t : ℕ) (image : List (List ℕ)) → t ≤ old.moment → new.left_since t image → old.left_since t image
+  pub keeps : (t : ℕ) (image : List (List ℕ)) → t ≤ old.moment → old.left_since t image → new.left_since t image
+
 -- The source was not asked, and nothing but reads was made on the disk: what it tells is the same, and a cut leaves
 -- nothing that it might not have left before.
 pub record OnlyReads (old new : Outside) : Type 0 where
   pub left : new.left ≡ old.left
   pub source_faults : new.source_faults ≡ old.source_faults
   pub content : Goes Same old.content new.content
-  pub cuts : AddsNoCut old.content old.moment new.moment old.left_since new.left_since
+  pub cuts : (c : Content) → old.content ≡ Some c → LeavesTheSame old new
 
 -- the lines of these logs, the newest first, and `sound`
 abbrev pub sound_text : Geometry → List Generation → List ℕ
@@ -59,7 +64,8 @@ IsOfChain fault = Unit {0}
 
 -- The disk states valid sizes, and where it tells its content this holds of its image, on a device of these sizes.
 abbrev pub OfImage : Option Geometry → Option Content → (Geometry → Contents → Type 0) → Type 0
-OfImage stated content P = (g : Geometry) × (stated ≡ Some g) × IsValid g × ((c : Content) → content ≡ Some c → P g (contents_of c.now))
+OfImage stated content P = (g : Geometry) × (stated ≡ Some g) × IsValid g
+    × ((c : Content) → content ≡ Some c → P g (contents_of c.now))
 
 -- What stands in the way of an answer: the sizes that the disk states, what it told, and its count of faults before and
 -- after. Sizes that no device has and a fault of the chain exclude each other and a text; a call of the disk that fails
@@ -67,7 +73,8 @@ OfImage stated content P = (g : Geometry) × (stated ≡ Some g) × IsValid g ×
 abbrev pub Finds : Option Geometry → Option Content → ℕ → ℕ → Refusal → Type 0
 Finds stated content before now (BadGeometry g) = (stated ≡ Some g) × (IsValid g → ⊥)
 Finds stated content before now DiskFault = Rose before now
-Finds stated content before now (BadChain fault) = IsOfChain fault × OfImage stated content (λ g image. TellsFault g image fault)
+Finds stated content before now (BadChain fault) = IsOfChain fault
+    × OfImage stated content (λ g image. TellsFault g image fault)
 Finds stated content before now NoMemory = Unit {0}
 Finds stated content before now refusal = ⊥
 
@@ -83,8 +90,8 @@ CheckCause old new refusal = OnlyReads old new × Finds new.stated old.content o
 abbrev pub IsFine : Geometry → Contents → Type 0
 IsFine g image = ((log : Generation) × (older : List Generation) × IsSound g image log older) ⊎ (HasMagic (image 0) → ⊥)
 
--- Nothing outside stands in the way of a check: the disk tells its content, states valid sizes, and no call of it fails;
--- and the image is sound or holds no log.
+-- Nothing outside stands in the way of a check: the disk tells its content, states valid sizes, and no call of it
+-- fails; and the image is sound or holds no log.
 pub record CheckInOrder (old new : Outside) : Type 0 where
   pub content : Content
   pub told : old.content ≡ Some content

@@ -41,12 +41,14 @@ AskNothing words untouched = ((command : Command) → Asks words command → ⊥
 -- Why a call refuses: its words ask for nothing, or what they ask for is refused. The line of any may want memory.
 abbrev pub RefusalCause : List (String Global) → Outside → Outside → Type 0 → Refusal → Type 0
 RefusalCause words old new untouched BadWords = AskNothing words untouched
-RefusalCause words old new untouched NoMemory = AskNothing words untouched ⊎ AskFor words (λ command. CommandCause command old new untouched NoMemory)
+RefusalCause words old new untouched NoMemory = AskNothing words untouched
+    ⊎ AskFor words (λ command. CommandCause command old new untouched NoMemory)
 RefusalCause words old new untouched refusal = AskFor words (λ command. CommandCause command old new untouched refusal)
 
 -- a refusal with this text: its line
 abbrev pub IsRefusalText : List (String Global) → Outside → Outside → Type 0 → Refusal → List ℕ → Type 0
-IsRefusalText words old new untouched refusal text = RefusalCause words old new untouched refusal × (text ≡ refusal_line refusal)
+IsRefusalText words old new untouched refusal text = RefusalCause words old new untouched refusal
+    × (text ≡ refusal_line refusal)
 
 -- the words ask for a command, and nothing outside stands in its way
 abbrev pub IsInOrder : List (String Global) → Outside → Outside → Type 0

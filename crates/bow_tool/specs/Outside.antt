@@ -16,8 +16,18 @@ pub record Outside : Type 1 where
   pub disk_faults : ℕ
 
 -- what lies outside, of these parts in this order
-abbrev pub outside : Option (List ℕ) → ℕ → Option Geometry → Option Content → ℕ → (ℕ → List (List ℕ) → Type 0) → ℕ → Outside
-outside left source_faults stated content moment left_since disk_faults = record { left = left; source_faults = source_faults; stated = stated; content = content; moment = moment; left_since = left_since; disk_faults = disk_faults }
+abbrev pub outside : Option (List ℕ) → ℕ → Option Geometry → Option Content → ℕ → (ℕ → List (List ℕ) → Type 0) → ℕ
+    → Outside
+outside left source_faults stated content moment left_since disk_faults =
+    record {
+      left = left;
+      source_faults = source_faults;
+      stated = stated;
+      content = content;
+      moment = moment;
+      left_since = left_since;
+      disk_faults = disk_faults;
+    }
 
 -- the disk states sizes that a device may have
 abbrev pub StatesSizes : Outside → Type 0

@@ -8,18 +8,18 @@ use Rattle.bow_units.specs.Sizes.{IsValid}
 use Rattle.bow_units.specs.Causes.{Rose}
 use Rattle.bow_disk.specs.Disk.{Content, IsSettledOn}
 use Rattle.bow_flat.specs.Flat.{Flat, opening}
-use Rattle.bow_core.specs.Standing.{StandsFor}
-use Rattle.bow_core.specs.Clauses.{HoldsImage}
-use Rattle.bow_script.specs.declared.scripts.Line.{Line}
-use Rattle.bow_script.specs.Grammar.{IsScriptText}
-use Rattle.bow_script.specs.Scripts.{script_of}
-use Rattle.bow_session.specs.declared.journals.Item.{Item}
-use Rattle.bow_session.specs.Journal.{Place, beginning, Legal}
-use Rattle.bow_session.specs.Lanes.{IsComplete}
-use Rattle.bow_session.specs.Cuts.{CanLeave, Cuts, CutsStand, IsOnTheWay}
-use Rattle.bow_session.specs.Moments.{Explains, moments_from}
-use Rattle.bow_session.specs.Served.{IsServed}
-use Rattle.bow_session.specs.Sessions.{asked_of}
+use Rattle.bow_plain.specs.Standing.{StandsFor}
+use Rattle.bow_plain.specs.Clauses.{HoldsImage}
+use Rattle.bow_plain_script.specs.declared.scripts.Line.{Line}
+use Rattle.bow_plain_script.specs.Grammar.{IsScriptText}
+use Rattle.bow_plain_script.specs.Scripts.{script_of}
+use Rattle.bow_plain_session.specs.declared.journals.Item.{Item}
+use Rattle.bow_plain_session.specs.Journal.{Place, beginning, Legal}
+use Rattle.bow_plain_session.specs.Lanes.{IsComplete}
+use Rattle.bow_plain_session.specs.Cuts.{CanLeave, Cuts, CutsStand, IsOnTheWay}
+use Rattle.bow_plain_session.specs.Moments.{Explains, moments_from}
+use Rattle.bow_plain_session.specs.Served.{IsServed}
+use Rattle.bow_plain_session.specs.Sessions.{asked_of}
 use Rattle.bow_report.specs.Texts.{transcript_text}
 use Rattle.bow_tool.specs.declared.refusals.Refusal.{Refusal}
 use Rattle.bow_tool.specs.declared.refusals.Refusal.TheVariants.{BadWords, BadScript, SourceFault, DiskFault, NeedsRestore, BadChain, NoMemory, BadGeometry}
@@ -64,13 +64,19 @@ KeepsImages old new = (c : Content) → old.content ≡ Some c → KeepsImage ol
 
 -- what the disk tells of the cuts of the call
 abbrev pub cuts_between : Outside → Outside → Cuts
-cuts_between old new = record { start = old.moment; early = old.left_since old.moment; since = new.left_since; now = CanLeave new.content }
+cuts_between old new = record {
+  start = old.moment;
+  early = old.left_since old.moment;
+  since = new.left_since;
+  now = CanLeave new.content;
+}
 
 -- A script was run from this state on: its journal is legal and complete, and leads to a state for which the disk
--- stands. Cuts leave states on the journal's way, where each item has the moment that the calls told so far give it, the
--- opening's flush among them. The disk's count of faults was this before, and rose by at least as many as the journal
--- tells. Where it did not rise, each request was done, or is out of range or begins with a reserved magic.
-pub record WasRun (sizes : Geometry) (script : List (List (List Line))) (start : Flat) (content : Option Content) (cuts : Cuts) (before now : ℕ) : Type 0 where
+-- stands. Cuts leave states on the journal's way, where each item has the moment that the calls told so far give it,
+-- the opening's flush among them. The disk's count of faults was this before, and rose by at least as many as the
+-- journal tells. Where it did not rise, each request was done, or is out of range or begins with a reserved magic.
+pub record WasRun (sizes : Geometry) (script : List (List (List Line))) (start : Flat) (content : Option Content)
+    (cuts : Cuts) (before now : ℕ) : Type 0 where
   pub journal : List Item
   pub buffers : ℕ → ℕ → List ℕ
   pub end : Place
@@ -82,7 +88,9 @@ pub record WasRun (sizes : Geometry) (script : List (List (List Line))) (start :
   pub served : (Rose before now → ⊥) → AllByRecursion (IsServed (asked_of sizes script buffers)) journal
 
 -- the transcript of that journal, with the contents that were read
-abbrev pub transcript_of : {sizes : Geometry} {script : List (List (List Line))} {start : Flat} {content : Option Content} {cuts : Cuts} {before now : ℕ} → WasRun sizes script start content cuts before now → List ℕ
+abbrev pub transcript_of : {sizes : Geometry} {script : List (List (List Line))} {start : Flat}
+    {content : Option Content} {cuts : Cuts} {before now : ℕ} → WasRun sizes script start content cuts before now
+    → List ℕ
 transcript_of {sizes} {script} r = transcript_text (asked_of sizes script r.buffers) r.journal
 
 -- The script that the source gave was run over a disk that held this. Where it was settled on its image, each image
@@ -91,16 +99,21 @@ pub record WasPlayed (old new : Outside) (c : Content) : Type 0 where
   pub given : GaveScript old.left new.left
   pub sizes : Geometry
   pub stated : new.stated ≡ Some sizes
-  pub run : WasRun sizes (script_of given.lines) (opening c.now) new.content (cuts_between old new) old.disk_faults new.disk_faults
-  pub settled : IsSettledOn c.now c → (cut : List (List ℕ)) → new.left_since old.moment cut → IsOnTheWay (asked_of sizes (script_of given.lines) run.buffers) run.journal (beginning (opening c.now)) run.end 0 cut
+  pub run : WasRun sizes (script_of given.lines) (opening c.now) new.content
+      (cuts_between old new) old.disk_faults new.disk_faults
+  pub settled : IsSettledOn c.now c → (cut : List (List ℕ)) → new.left_since old.moment cut
+      → IsOnTheWay (asked_of sizes (script_of given.lines) run.buffers) run.journal
+      (beginning (opening c.now)) run.end 0 cut
 
--- Why a play that was asked for is refused. The first that applies, in this order, is the answer; want of memory may take
--- the place of any.
+-- Why a play that was asked for is refused. The first that applies, in this order, is the answer; want of memory may
+-- take the place of any.
 abbrev pub PlayCause : Outside → Outside → Type 0 → Refusal → Type 0
 PlayCause old new untouched SourceFault = Rose old.source_faults new.source_faults × untouched
 PlayCause old new untouched (BadScript line) = (line ≡ 0) × GaveNoScript old.left new.left × untouched
-PlayCause old new untouched (BadGeometry g) = GaveScript old.left new.left × (new.stated ≡ Some g) × (IsValid g → ⊥) × KeepsImages old new
-PlayCause old new untouched DiskFault = GaveScript old.left new.left × Rose old.disk_faults new.disk_faults × KeepsImages old new
+PlayCause old new untouched (BadGeometry g) = GaveScript old.left new.left × (new.stated ≡ Some g) × (IsValid g → ⊥)
+    × KeepsImages old new
+PlayCause old new untouched DiskFault = GaveScript old.left new.left × Rose old.disk_faults new.disk_faults
+    × KeepsImages old new
 PlayCause old new untouched NoMemory = (c : Content) → old.content ≡ Some c → KeepsImage old new c ⊎ WasPlayed old new c
 PlayCause old new untouched BadWords = ⊥
 PlayCause old new untouched NeedsRestore = ⊥
@@ -117,8 +130,8 @@ abbrev pub TellsScript : Option (List ℕ) → Type 0
 TellsScript None = ⊥
 TellsScript (Some text) = (lines : List Line) × IsScriptText text lines
 
--- Nothing outside stands in the way of a play: the source tells a script, the disk states valid sizes, and no call of the
--- source or the disk fails.
+-- Nothing outside stands in the way of a play: the source tells a script, the disk states valid sizes, and no call of
+-- the source or the disk fails.
 pub record PlayInOrder (old new : Outside) : Type 0 where
   pub script : TellsScript old.left
   pub sizes : (g : Geometry) → new.stated ≡ Some g → IsValid g

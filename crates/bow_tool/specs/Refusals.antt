@@ -1,8 +1,8 @@
 -- The status and the line of each refusal.
 use Rattle.std.specs.Prelude.{ℕ, List, [], ◌∷◌, ◌++◌, codes}
 use Rattle.std.specs.Fmt.{decimal}
-use Rattle.bow_core.specs.declared.device.OpenFault.{OpenFault}
-use Rattle.bow_core.specs.declared.device.OpenFault.TheVariants as opens
+use Rattle.bow_plain.specs.declared.device.OpenFault.{OpenFault}
+use Rattle.bow_plain.specs.declared.device.OpenFault.TheVariants as opens
 use Rattle.bow_report.specs.Chains.{chain_fault_text}
 use Rattle.bow_tool.specs.declared.refusals.Refusal.{Refusal}
 use Rattle.bow_tool.specs.declared.refusals.Refusal.TheVariants.{BadWords, BadScript, SourceFault, DiskFault, NeedsRestore, BadChain, NoMemory, BadGeometry}

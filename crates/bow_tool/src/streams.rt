@@ -23,10 +23,12 @@ const LIMIT: usize = 4_194_305;
 
 /// Reads a source to its end, or until 4,194,305 bytes have come.
 pub(crate) fn read_all<S: Source>(alloc: Global, source: &mut S) -> Result<Vec<u8>, ReadFault>
-    ensures bytes { IfOk result (λ v. Consumes (S.left source.old) (S.left source.new) v.items × IsAtEnd (S.left source.new)) }
+    ensures bytes { IfOk result (λ v. Consumes (S.left source.old) (S.left source.new) v.items
+        × IsAtEnd (S.left source.new)) }
     ensures few { IfOk result (λ v. length v.items ≤ 4194304) }
     ensures faults { S.faults source.old ≤ S.faults source.new }
-    ensures cause { ReadCause (S.left source.old) (S.left source.new) (S.faults source.old) (S.faults source.new) result }
+    ensures cause { ReadCause (S.left source.old) (S.left source.new) (S.faults source.old)
+        (S.faults source.new) result }
 {
     let mut bytes = Vec::new(alloc);
     let mut buffer = [0u8; 4096];

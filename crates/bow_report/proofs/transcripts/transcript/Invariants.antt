@@ -1,6 +1,6 @@
 use Rattle.std.proofs.Common.{◌≡◌, take}
 use Rattle.std.specs.String.{string_bytes}
-use Rattle.bow_session.specs.Contents.{asked_in}
+use Rattle.bow_plain_session.specs.Contents.{asked_in}
 use Rattle.bow_report.specs.Texts.{transcript_text}
 use Rattle.bow_report.proofs.transcripts.transcript.Given as goal
 

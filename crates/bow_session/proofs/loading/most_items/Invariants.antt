@@ -1,7 +1,7 @@
-use Rattle.std.proofs.Common.{◌≡◌, ◌+◌, ◌*◌, ◌≤◌, take}
-use Rattle.std.specs.List.{sum_by}
-use Rattle.bow_script.specs.Grammar.{blocks_of}
+use Rattle.std.proofs.Common.{◌≡◌}
+use Rattle.bow_history.specs.Ends.{over_lanes}
+use Rattle.bow_session.specs.Loading.{lane_items}
 use Rattle.bow_session.proofs.loading.most_items.Given as goal
 
-abbrev pub invariant-loop-line : goal.invariant-loop-line
-invariant-loop-line l = (l.items ≡ sum_by (λ line. blocks_of line + 1) (take l.line-index l.lines)) × (l.items ≤ l.line-index * 4294967296)
+abbrev pub invariant-loop-lane : goal.invariant-loop-lane
+invariant-loop-lane l = l.items ≡ over_lanes (lane_items l.script) l.lane

@@ -1,6 +1,6 @@
 use Rattle.std.proofs.Common.{◌≡◌, ℕ, suc, List, ◌+◌, ◌*◌, ◌++◌, length, sym, ap, ◌∙◌, arith, rules, length-append}
 use Rattle.bow_units.specs.Pattern.{pattern}
-use Rattle.bow_session.specs.Lanes.{patterns}
+use Rattle.bow_session.specs.Requests.{patterns}
 use Rattle.bow_session.proofs.Lines.{patterns-more, refilled}
 use Rattle.bow_session.proofs.payloads.pattern_bytes.Goals as goal
 

@@ -1,5 +1,5 @@
 use Rattle.std.proofs.Common.{◌≡◌, ◌*◌, length}
-use Rattle.bow_session.specs.Lanes.{patterns}
+use Rattle.bow_session.specs.Requests.{patterns}
 use Rattle.bow_session.proofs.payloads.pattern_bytes.Given as goal
 
 abbrev pub invariant-loop-i : goal.invariant-loop-i

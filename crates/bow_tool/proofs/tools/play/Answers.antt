@@ -1,8 +1,8 @@
 use Rattle.std.proofs.Common.{◌≡◌, ◌⊎◌, ℕ, List, Some, sym, subst, arith}
 use Rattle.bow_disk.specs.Disk.{Content, IsCrash}
 use Rattle.bow_flat.specs.Flat.{opening}
-use Rattle.bow_session.specs.Cuts.{IsOpenedOn}
-use Rattle.bow_script.specs.Scripts.{lane_lines}
+use Rattle.bow_plain_session.specs.Cuts.{IsOpenedOn}
+use Rattle.bow_plain_script.specs.Scripts.{lane_lines}
 use Rattle.bow_tool.specs.Outside.{outside}
 use Rattle.bow_tool.specs.Play.{cuts_between, KeepsImage, GaveScript, WasRun, transcript_of}
 use Rattle.bow_tool.proofs.Playing.{played, refused, opened_on, keeps_opened, one_counted}

@@ -1,12 +1,12 @@
 use Rattle.std.proofs.Common.{◌≡◌, inr, [], sym, ap, ◌∙◌, subst, arith}
 use Rattle.bow_units.specs.declared.requests.Phase.{Phase}
 use Rattle.bow_units.specs.declared.requests.Phase.TheVariants.{Trim}
-use Rattle.bow_core.specs.Standing.{StandsFor}
-use Rattle.bow_session.specs.Moments.{Explains}
-use Rattle.bow_script.specs.Scripts.{lane_lines}
-use Rattle.bow_session.specs.Journal.{beginning}
-use Rattle.bow_session.specs.Cuts.{Cuts, CutsStand, cuts_of}
-use Rattle.bow_session.specs.Sessions.{asked_of, buffer_of}
+use Rattle.bow_plain.specs.Standing.{StandsFor}
+use Rattle.bow_plain_session.specs.Moments.{Explains}
+use Rattle.bow_plain_script.specs.Scripts.{lane_lines}
+use Rattle.bow_plain_session.specs.Journal.{beginning}
+use Rattle.bow_plain_session.specs.Cuts.{Cuts, CutsStand, cuts_of}
+use Rattle.bow_plain_session.specs.Sessions.{asked_of, buffer_of}
 use Rattle.bow_tool.proofs.Playing.{was_run, begins_in_trim, same_text}
 use Rattle.bow_tool.proofs.tools.run.Goals as goal
 

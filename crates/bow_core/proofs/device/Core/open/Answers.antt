@@ -1,20 +1,22 @@
-use Rattle.std.proofs.Common.{◌≡◌, Some}
-use Rattle.bow_disk.specs.Disk.{Content, IsShaped}
-use Rattle.bow_core.proofs.Events.{opening_told, opening_cuts}
+use Rattle.std.proofs.Common.{◌≡◌, ap, sym, subst, ◌∙◌}
+use Rattle.std.specs.Prelude.{IfOk, Ok}
+use Rattle.bow_flat.specs.Flat.{opening}
+use Rattle.bow_machine.specs.Laws.{opened}
+use Rattle.bow_core.specs.Held.{Held}
+use Rattle.bow_core.specs.Openings.{LeftBy}
+use Rattle.bow_core.specs.Standing.{StandsOver}
+use Rattle.bow_core.proofs.Opened.{opened_so}
 use Rattle.bow_core.proofs.device.Core.open.Goals as goal
 
-pub returns-in-Ok-flush-clause-state : goal.returns-in-Ok-flush-clause-state
-returns-in-Ok-flush-clause-state g c image is =
-    let n = c.in-Ok.geometry.blocks in
-    let s = c.in-Ok.geometry.block_size in
-    let shaped : (k : Content) → g.D.Disk.content c.sizes.new.self ≡ Some k → IsShaped s n k = λ k told. g.met.D.Disk.shaped c.sizes.new.self k told c.in-Ok.geometry c.in-Ok.ensures.gives in
-    opening_told n s image (g.D.Disk.content c.args.disk) (g.D.Disk.content c.sizes.new.self) (g.D.Disk.content c.flush.new.self) is c.sizes.ensures.step shaped c.in-Ok-flush.ensures.step
-
-pub returns-in-Ok-flush-clause-cuts : goal.returns-in-Ok-flush-clause-cuts
-returns-in-Ok-flush-clause-cuts g c =
-    let n = c.in-Ok.geometry.blocks in
-    let s = c.in-Ok.geometry.block_size in
-    let shaped : (k : Content) → g.D.Disk.content c.sizes.new.self ≡ Some k → IsShaped s n k = λ k told. g.met.D.Disk.shaped c.sizes.new.self k told c.in-Ok.geometry c.in-Ok.ensures.gives in
-    opening_cuts n s (g.D.Disk.moment c.args.disk) (g.D.Disk.moment c.sizes.new.self) (g.D.Disk.moment c.flush.new.self) (g.D.Disk.content c.args.disk) (g.D.Disk.content c.sizes.new.self) (g.D.Disk.content c.flush.new.self)
-    (g.D.Disk.left_since c.args.disk) (g.D.Disk.left_since c.sizes.new.self) (g.D.Disk.left_since c.flush.new.self) c.sizes.ensures.count c.sizes.ensures.step shaped c.in-Ok-flush.ensures.step
-    (λ k told. g.met.D.Disk.counts_now c.sizes.new.self k told) c.sizes.ensures.past c.flush.ensures.time
+pub returns-in-Ok-settle-clause-stands : goal.returns-in-Ok-settle-clause-stands
+returns-in-Ok-settle-clause-stands g c k is =
+    let g0 = c.in-Ok.geometry in
+    let a = c.args.disk in
+    let b = c.sizes.new.self in
+    let d = c.settle.new.port.disk in
+    let open_is = subst (λ r. IfOk r (λ (s : Held). s ≡ record { geometry = g0; places = c.args.places; memory = opened g0.blocks })) c.in-Ok-open.is c.open.ensures in
+    let state_is = c.settle.ensures.state ∙ open_is in
+    let made = subst (λ r. LeftBy g.D.Disk.stated g.D.Disk.content g.D.Disk.moment g.D.Disk.left_since g.D.Disk.faults c.in-Ok-open.state.geometry r b d) c.in-Ok-settle.is c.settle.ensures.left in
+    let made_so = subst (λ x. LeftBy g.D.Disk.stated g.D.Disk.content g.D.Disk.moment g.D.Disk.left_since g.D.Disk.faults x (Ok c.in-Ok-settle.field-0) b d) (ap (λ (h : Held). h.geometry) open_is) made in
+    let all = opened_so g.D.Disk.stated g.D.Disk.content g.D.Disk.moment g.D.Disk.left_since g.D.Disk.faults g.met.D.Disk.shaped g.met.D.Disk.counts_now g0 c.in-Ok-settle.field-0 a b d k is (c.valid.ensures.0 c.if-not-valid.false) c.sizes.ensures.step c.sizes.ensures.count made_so in
+    (all.0, subst (λ (h : Held). StandsOver h.geometry h.memory (g.D.Disk.content d) (opening k.now)) (sym state_is) all.1)

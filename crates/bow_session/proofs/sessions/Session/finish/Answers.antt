@@ -1,13 +1,24 @@
-use Rattle.std.proofs.Common.{◌≡◌, ◌∙◌, rules, arith, false}
+use Rattle.std.proofs.Common.{◌≡◌, sym, subst}
+use Rattle.bow_session.specs.Desks.{run_of}
+use Rattle.bow_session.specs.Runs.{IsRun}
+use Rattle.bow_session.specs.Sessions.{Run}
+use Rattle.bow_session.proofs.Over.{is_over_then}
+use Rattle.bow_session.proofs.Cutting.{plays_follow, plays_go_on, script_stays}
 use Rattle.bow_session.proofs.sessions.Session.finish.Goals as goal
 
-pub loop-self-smaller : goal.loop-self-smaller
-loop-self-smaller g c =
-    let still : c.over.result ≡ false = search rules in
-    c.step.ensures.fewer (c.step.ensures.ready.1 (c.over.ensures.more still))
+pub returns-clause-over : goal.returns-clause-over
+returns-clause-over g c = is_over_then c.finish.new.self c.finish.ensures.fits c.finish.ensures.over
 
-pub loop-self-preserved : goal.loop-self-preserved
-loop-self-preserved g c =
-    let old = c.loop-self.invariant in
-    let new = c.step.ensures in
-    (new.script ∙ old.0, new.geometry ∙ old.1, new.phase ∙ old.2, λ start first p. new.played start first (old.3 start first p), omega (arith, old.4, new.faults), λ before e. new.explained before (old.5 before e), λ before a. new.admitted before (old.6 before a), λ before a. new.counted before (old.7 before a))
+pub returns-clause-run : goal.returns-clause-run
+returns-clause-run g c first turns k =
+    let plays = c.finish.ensures.plays in
+    let before = subst (λ (v : Run g.row.D.Denot). IsRun g.D.Disk.stated g.D.Disk.content g.D.Disk.faults first turns v) (sym c.self.view_is) k in (
+      plays.0,
+      rw (sym c.self.view_is) (plays_follow g.D.Disk.stated g.D.Disk.content g.D.Disk.moment g.D.Disk.left_since g.D.Disk.faults c.args.number (run_of c.self.inside.desk) plays.0 (run_of c.finish.new.self) plays.1),
+      rw (sym c.self.view_is) (plays_go_on g.D.Disk.stated g.D.Disk.content g.D.Disk.moment g.D.Disk.left_since g.D.Disk.faults g.met.D.Disk.shaped g.met.D.Disk.only_now first turns c.args.number (run_of c.self.inside.desk) plays.0 (run_of c.finish.new.self) before plays.1),
+    )
+
+pub returns-clause-script : goal.returns-clause-script
+returns-clause-script g c =
+    let plays = c.finish.ensures.plays in
+    rw (sym c.self.view_is) (script_stays g.D.Disk.stated g.D.Disk.content g.D.Disk.moment g.D.Disk.left_since g.D.Disk.faults c.args.number (run_of c.self.inside.desk) plays.0 (run_of c.finish.new.self) plays.1)

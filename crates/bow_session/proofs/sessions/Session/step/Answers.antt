@@ -1,12 +1,12 @@
-use Rattle.std.proofs.Common.{sym, subst}
-use Rattle.bow_session.specs.Sessions.{HasPlayed, HasCounted, HasAdmitted}
+use Rattle.std.proofs.Common.{◌≡◌, sym, subst}
+use Rattle.bow_session.specs.Desks.{run_of}
+use Rattle.bow_session.specs.Runs.{IsRun}
+use Rattle.bow_session.specs.Sessions.{Run}
+use Rattle.bow_session.proofs.Cutting.{goes_on}
 use Rattle.bow_session.proofs.sessions.Session.step.Goals as goal
 
-pub returns-then-ready-clause-admitted : goal.returns-then-ready-clause-admitted
-returns-then-ready-clause-admitted g c before had = c.step.ensures.admitted before (subst (λ x. HasAdmitted x before) (sym c.self.view_is) had)
-
-pub returns-then-ready-clause-counted : goal.returns-then-ready-clause-counted
-returns-then-ready-clause-counted g c before had = c.step.ensures.counted before (subst (λ x. HasCounted x before) (sym c.self.view_is) had)
-
-pub returns-then-ready-clause-played : goal.returns-then-ready-clause-played
-returns-then-ready-clause-played g c start first had = c.step.ensures.played start first (subst (λ x. HasPlayed g.D.Disk.content g.D.Disk.moment g.D.Disk.left_since x start first) (sym c.self.view_is) had)
+pub returns-then-ready-clause-run : goal.returns-then-ready-clause-run
+returns-then-ready-clause-run g c first turns k is =
+    let turn = c.step.ensures.turn in
+    let before = subst (λ (v : Run g.row.D.Denot). IsRun g.D.Disk.stated g.D.Disk.content g.D.Disk.faults first turns v) (sym c.self.view_is) k in
+    (turn.0, rw (sym c.self.view_is) (goes_on g.D.Disk.stated g.D.Disk.content g.D.Disk.moment g.D.Disk.left_since g.D.Disk.faults g.met.D.Disk.shaped g.met.D.Disk.only_now first turns (run_of c.self.inside.desk) turn.0 (run_of c.step.new.self) before turn.2))

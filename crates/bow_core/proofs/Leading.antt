@@ -1,0 +1,254 @@
+-- From a step of the machine over a disk to the flat state.
+use Rattle.std.proofs.Common.{ℕ, zero, suc, ◌≡◌, ◌⊎◌, ◌<◌, ◌≤◌, ◌+◌, List, [], ◌∷◌, Option, Some, None, Bool, true, false, get_or, refl, sym, ap, ◌∙◌, subst, arith, inl, inr, ⊎_elim}
+use Rattle.std.specs.Prelude.{Contains, not, min, max, ◌-◌, ◌^◌}
+use Rattle.std.proofs.lemmas.List.{get_or-set_same}
+use Rattle.std.proofs.lemmas.Bool.{false≢true, cases_Bool}
+use Rattle.bow_units.specs.Causes.{Rose}
+use Rattle.bow_units.specs.declared.sizes.Geometry.{Geometry}
+use Rattle.bow_units.specs.declared.requests.Outcome.{Outcome}
+use Rattle.bow_disk.specs.Disk.{Content, IsCrash, IsShaped, Goes, Same, Written}
+use Rattle.bow_chain.specs.Contents.{Contents, contents_of}
+use Rattle.bow_flat.specs.Flat.{Flat, Event}
+use Rattle.bow_guard.specs.Cuts.{candidates_of}
+use Rattle.bow_guard.specs.Standing.{StandsFor}
+use Rattle.bow_guard.proofs.Joined.{writes_are_given, flushes_are_done, crashes_are_cuts}
+use Rattle.bow_queue.specs.declared.tickets.Ticket.{Ticket}
+use Rattle.bow_machine.specs.Requests.{Request, request_of}
+use Rattle.bow_machine.specs.Memory.{Memory, Hand, Empty, Batching, Preparing, Committing, ReadsBlock0, WritesCurrent, WritesBackup, FlushesCopies, WritesFirstLog, FlushesFirstLog, FlushesAll, ReadsCurrent, WritesBlock0, FlushesDecision}
+use Rattle.bow_machine.specs.Calls.{Call, ReadCall, WriteCall, FlushCall, Reply, Failed, Succeeded, Gave, DoesIt}
+use Rattle.bow_machine.specs.Tasks.{Task, Waits, Answers, WritesBlock, ReadsBlock, FlushesFor, DiscardsFor, Acts, task_of}
+use Rattle.bow_machine.specs.Steps.{Step, Told, Idle, Moved, Wrote, Got, Answered, answered_for, call_of, step_of, act_step}
+use Rattle.bow_machine.specs.Laws.{after_all, AllowsAll}
+use Rattle.bow_machine.specs.Ready.{is_ready, is_idle}
+use Rattle.bow_machine.specs.Standing.{IsStanding}
+use Rattle.bow_machine.specs.MemoryIsSound.{MemoryIsSound}
+use Rattle.bow_machine.specs.MemoryLaws.{IsOnDevice, FaultIsTold, tells_fault, served_by}
+use Rattle.bow_machine.proofs.Orders.{disk_by_reply}
+use Rattle.bow_machine.proofs.SoundCalls.{calls_are_on_device, faults_are_told, idle_changes_nothing, ready_is_table}
+use Rattle.bow_machine.proofs.Whole.{step_keeps}
+use Rattle.bow_machine.proofs.Cuts.{machine_cut}
+use Rattle.bow_core.specs.Calls.{DoesOne, Passes, calls_in, HasFault, StaysWithout, Counted}
+use Rattle.bow_core.specs.Standing.{StandsOver, StandsIn, Leads, seen, step_seen, state_after}
+use Rattle.bow_core.specs.Steps.{IsStep, done_by, unknown, task_in, call_in, step_in}
+use Rattle.bow_core.specs.Turns.{turn_of, told_of}
+use Rattle.bow_core.specs.Views.{View, IsOpened}
+use Rattle.bow_core.specs.declared.turns.Turn.{Turn}
+use Rattle.bow_core.specs.declared.turns.Step.{Step as OwnStep}
+use Rattle.bow_log.specs.Generations.{Generation}
+use Rattle.bow_machine.specs.Ahead.{IsLed}
+use Rattle.bow_machine.proofs.Ahead.{led_keeps}
+use Rattle.bow_machine.proofs.SoundPast.{older_logs_stay}
+use Rattle.bow_core.specs.Further.{KeepsOn, LedIn, LedOver, BehindOver}
+use Rattle.bow_core.proofs.Replies.{can_have}
+
+same_it : (c d : Content) → Same c d → (contents_of d.now ≡ contents_of c.now) × (candidates_of d.candidates ≡ candidates_of c.candidates)
+same_it c d same = (ap contents_of same.0, ap candidates_of same.1)
+
+module _ (g : Geometry) (c d : Content) (old : IsShaped g.block_size g.blocks c) (new : IsShaped g.block_size g.blocks d) where
+  held : (b : ℕ) → b < g.blocks → Contains (candidates_of d.candidates b) (contents_of d.now b)
+  held b on = new.held b on
+
+  wrote_v : (b : ℕ) (v : List ℕ) → b < g.blocks → Written b v c d → contents_of d.now b ≡ v
+  wrote_v b v on w = ap (λ (l : List (List ℕ)). get_or l b []) w.0 ∙ get_or-set_same c.now b v [] (omega (arith, old.blocks))
+
+  -- what a call does to lists, it does to functions
+  pub does_it : (call : Option Call) (reply : Reply) → IsOnDevice g call → DoesOne call reply c d → DoesIt g call reply (contents_of c.now) (candidates_of c.candidates) (contents_of d.now) (candidates_of d.candidates)
+  does_it None reply on does = same_it c d does
+  does_it (Some (ReadCall b)) (Gave v) on does = (sym does.1, ap contents_of (does.0).0, ap candidates_of (does.0).1)
+  does_it (Some (ReadCall b)) Failed on does = same_it c d does
+  does_it (Some (ReadCall b)) Succeeded on does = absurd does
+  does_it (Some (WriteCall b v)) Succeeded on does = (record { given = writes_are_given g.block_size g.blocks b v c d old on.0 (inr (inr does)); held = held b on.0 }, wrote_v b v on.0 does)
+  does_it (Some (WriteCall b v)) Failed on does = record { given = writes_are_given g.block_size g.blocks b v c d old on.0 does; held = held b on.0 }
+  does_it (Some (WriteCall b v)) (Gave w) on does = absurd does
+  does_it (Some FlushCall) Succeeded on does = flushes_are_done g g.block_size c d old does
+  does_it (Some FlushCall) Failed on does = same_it c d does
+  does_it (Some FlushCall) (Gave v) on does = absurd does
+
+-- what a cut left since then
+since_then : (g : Geometry) (h : Flat) (calls before now : ℕ) (past since : ℕ → List (List ℕ) → Type 0) (d : Content) → Passes calls (Some d) before now past since
+    → ((image : List (List ℕ)) → IsCrash d.candidates image → StandsFor g h (contents_of image))
+    → (t : ℕ) (image : List (List ℕ)) → t ≤ before → since t image → past t image ⊎ StandsFor g h (contents_of image)
+since_then g h zero before now past since d time crash t image le left = inl (time.1 t image left)
+since_then g h (suc n) before now past since d time crash t image le left = ⊎_elim (λ old. inl old) (λ cut. inr (crash image cut)) (time.nothing_else t image le left)
+
+-- ----------------------------------------------------------------------------------------------------------------
+-- A turn that is ready tells something.
+
+abbrev tells : Told → Bool
+tells Idle = false
+tells Moved = true
+tells (Wrote t i) = true
+tells (Got t i) = true
+tells (Answered t op outcome) = true
+
+answer_tells : (left : Memory) (found : Option Request) (o : Request → Outcome) (happens : Request → List Event) → tells (answered_for left found o happens).told ≡ true
+answer_tells left None o happens = refl
+answer_tells left (Some r) o happens = refl
+
+act_tells : (g : Geometry) (m : Memory) (hand : Hand) (reply : Reply) → tells (act_step g unknown m hand reply).told ≡ true
+act_tells g m Empty reply = refl
+act_tells g m (Batching b) Failed = answer_tells _ (request_of b.ticket m.requests) _ _
+act_tells g m (Batching b) Succeeded = refl
+act_tells g m (Batching b) (Gave v) = refl
+act_tells g m (Preparing t c b act) Failed = answer_tells _ (request_of t m.requests) _ _
+act_tells g m (Preparing t c b ReadsBlock0) Succeeded = refl
+act_tells g m (Preparing t c b ReadsBlock0) (Gave v) = refl
+act_tells g m (Preparing t c b (WritesCurrent w)) Succeeded = refl
+act_tells g m (Preparing t c b (WritesCurrent w)) (Gave v) = refl
+act_tells g m (Preparing t c b (WritesBackup w)) Succeeded = refl
+act_tells g m (Preparing t c b (WritesBackup w)) (Gave v) = refl
+act_tells g m (Preparing t c b (FlushesCopies w)) Succeeded = refl
+act_tells g m (Preparing t c b (FlushesCopies w)) (Gave v) = refl
+act_tells g m (Preparing t c b WritesFirstLog) Succeeded = refl
+act_tells g m (Preparing t c b WritesFirstLog) (Gave v) = refl
+act_tells g m (Preparing t c b FlushesFirstLog) Succeeded = answer_tells _ (request_of t m.requests) _ _
+act_tells g m (Preparing t c b FlushesFirstLog) (Gave v) = answer_tells _ (request_of t m.requests) _ _
+act_tells g m (Committing t again act) Failed = answer_tells _ (request_of t m.requests) _ _
+act_tells g m (Committing t again FlushesAll) Succeeded = refl
+act_tells g m (Committing t again FlushesAll) (Gave v) = refl
+act_tells g m (Committing t again ReadsCurrent) Succeeded = refl
+act_tells g m (Committing t again ReadsCurrent) (Gave v) = refl
+act_tells g m (Committing t again (WritesBlock0 w)) Succeeded = refl
+act_tells g m (Committing t again (WritesBlock0 w)) (Gave v) = refl
+act_tells g m (Committing t again FlushesDecision) Succeeded = answer_tells _ (request_of t m.requests) _ _
+act_tells g m (Committing t again FlushesDecision) (Gave v) = answer_tells _ (request_of t m.requests) _ _
+
+task_tells : (g : Geometry) (m : Memory) (task : Task) (reply : Reply) → is_idle task ≡ false → tells (done_by g m task reply).told ≡ true
+task_tells g m Waits reply busy = absurd (false≢true (sym busy))
+task_tells g m (Answers r o) reply busy = refl
+task_tells g m (WritesBlock r b) Failed busy = refl
+task_tells g m (WritesBlock r b) Succeeded busy = refl
+task_tells g m (WritesBlock r b) (Gave v) busy = refl
+task_tells g m (ReadsBlock r b) Failed busy = refl
+task_tells g m (ReadsBlock r b) Succeeded busy = refl
+task_tells g m (ReadsBlock r b) (Gave v) busy = refl
+task_tells g m (FlushesFor r) Failed busy = refl
+task_tells g m (FlushesFor r) Succeeded busy = refl
+task_tells g m (FlushesFor r) (Gave v) busy = refl
+task_tells g m (DiscardsFor r) reply busy = refl
+task_tells g m (Acts taken) reply busy = act_tells g taken taken.hand reply
+
+-- ----------------------------------------------------------------------------------------------------------------
+-- What follows from one step.
+
+-- a fault that is told had its cause
+fault_cause : (requests : List Request) (served : Option Ticket) (call : Option Call) (reply : Reply) (told : Told) (before now : ℕ) → FaultIsTold requests served call reply told → HasFault call reply before now → tells_fault told ≡ true → Rose before now
+fault_cause requests served (Some call) Failed told before now row has is = has
+fault_cause requests served (Some call) Succeeded told before now row has is = absurd (false≢true (sym row ∙ is))
+fault_cause requests served (Some call) (Gave v) told before now row has is = absurd (false≢true (sym row ∙ is))
+fault_cause requests served None Failed told before now row has is = absurd (false≢true (sym row ∙ is))
+fault_cause requests served None Succeeded told before now row has is = absurd (false≢true (sym row ∙ is))
+fault_cause requests served None (Gave v) told before now row has is = absurd (false≢true (sym row ∙ is))
+
+one_at_most : (call : Option Call) → calls_in call ≤ 1
+one_at_most None = omega arith
+one_at_most (Some call) = omega arith
+
+module _ {D : Type 0} (stated : D → Option Geometry) (content : D → Option Content) (moment : D → ℕ) (left : D → ℕ → List (List ℕ) → Type 0) (faults : D → ℕ)
+    (old : View D) (turn : Turn) (tells_so : OwnStep) (new : View D) (opened : IsOpened stated old) (step : IsStep stated content moment left faults old turn tells_so new) where
+  abbrev g : Geometry
+  g = old.geometry
+
+  abbrev m : Memory
+  m = old.memory
+
+  pub step_cause : tells_fault (told_of tells_so) ≡ true → Rose (faults old.disk) (faults new.disk)
+  step_cause is =
+      let task = task_in old turn in
+      let row = faults_are_told g m (turn_of turn) step.reply unknown opened.sound (can_have g _ step.reply step.made.may) in
+      fault_cause m.requests (served_by task) (call_of g m task) step.reply (done_by g m task step.reply).told (faults old.disk) (faults new.disk) row step.made.cause (ap tells_fault (sym step.told) ∙ is)
+
+  pub unready_idle : is_ready g m (turn_of turn) ≡ false → told_of tells_so ≡ Idle
+  unready_idle unready =
+      step.told ∙ ap (λ (s : Step). s.told) ((idle_changes_nothing g m (turn_of turn) step.reply unknown opened.sound unready).1)
+
+  pub idle_unready : told_of tells_so ≡ Idle → is_ready g m (turn_of turn) ≡ false
+  idle_unready idle = elim (cases_Bool (is_ready g m (turn_of turn))) [
+    | inl ready ↦ absurd (false≢true (sym (ap tells idle) ∙ ap tells step.told ∙ task_tells g m (task_in old turn) step.reply (ready_is_table g m (turn_of turn) opened.sound ∙ ap not ready)))
+    | inr unready ↦ unready
+  ]
+
+  same_counted : (call : Option Call) → call ≡ None → Counted (calls_in call) old.calls new.calls → new.calls ≡ old.calls
+  same_counted call none counted = let e = ap calls_in none in omega (arith, counted, e)
+
+  pub idle_same : told_of tells_so ≡ Idle → new ≡ old
+  idle_same idle =
+      let unready = idle_unready idle in
+      let both = idle_changes_nothing g m (turn_of turn) step.reply unknown opened.sound unready in
+      let memory : new.memory ≡ old.memory = step.memory ∙ ap (λ (s : Step). s.memory) both.1 in
+      let disk : new.disk ≡ old.disk = subst (λ call. StaysWithout call old.disk new.disk) both.0 step.made.stays in
+      let calls : new.calls ≡ old.calls = same_counted (call_in old turn) both.0 step.made.counted in
+      same new.disk new.geometry new.places new.memory new.admitted new.calls disk step.geometry step.places memory step.admitted calls
+    where
+      same : (disk : D) (geometry : Geometry) (places : ℕ) (memory : Memory) (admitted calls : ℕ) → disk ≡ old.disk → geometry ≡ old.geometry → places ≡ old.places → memory ≡ old.memory → admitted ≡ old.admitted → calls ≡ old.calls
+          → record { disk = disk; geometry = geometry; places = places; memory = memory; admitted = admitted; calls = calls } ≡ old
+      same disk geometry places memory admitted calls a b c d e f = rw (a, b, c, d, e, f) refl
+
+  pub one_call : (old.calls ≤ new.calls) × (new.calls ≤ old.calls + 1)
+  one_call = let few = one_at_most (call_in old turn) in let counted : Counted (calls_in (call_in old turn)) old.calls new.calls = step.made.counted in (omega (arith, counted), omega (arith, counted, few))
+
+  module _ (shaped : (d : D) (c : Content) → content d ≡ Some c → (g : Geometry) → stated d ≡ Some g → IsShaped g.block_size g.blocks c) where
+    -- it leads from each state for which the device stood
+    pub step_leads : (f : Flat) → StandsIn content old f → Leads content moment left old turn tells_so new f
+    step_leads f stands = go (content old.disk) refl (content new.disk) refl step.made.disk stands
+      where
+        go : (o : Option Content) → content old.disk ≡ o → (n : Option Content) → content new.disk ≡ n → Goes (DoesOne (call_in old turn) step.reply) o n → StandsOver g m o f → Leads content moment left old turn tells_so new f
+        go None is n at goes stands = absurd stands
+        go (Some c) is None at goes stands = absurd goes
+        go (Some c) is (Some d) at goes stands =
+            let sizes : stated new.disk ≡ Some g = step.made.sizes in
+            let does = does_it g c d (shaped old.disk c is g opened.sizes) (shaped new.disk d at g sizes) (call_in old turn) step.reply (calls_are_on_device g m (turn_of turn) opened.sound) goes in
+            let kept = step_keeps g m (turn_of turn) step.reply (contents_of c.now) (contents_of d.now) (candidates_of c.candidates) (candidates_of d.candidates) f stands does in
+            let both = subst (λ (n : Contents). AllowsAll g.blocks (step_of g n m (task_in old turn) step.reply).events f
+            × IsStanding g (step_of g n m (task_in old turn) step.reply).memory (contents_of d.now) (candidates_of d.candidates) (after_all g.blocks (step_of g n m (task_in old turn) step.reply).events f)) (sym (ap seen is)) kept in
+            let same = disk_by_reply g m (turn_of turn) step.reply unknown (seen (content old.disk)) in
+            let after : Flat = state_after content old turn step.reply f in
+            let memory : new.memory ≡ (step_seen content old turn step.reply).memory = step.memory ∙ same.0 in
+            let standing : IsStanding g new.memory (contents_of d.now) (candidates_of d.candidates) after = subst (λ k. IsStanding g k (contents_of d.now) (candidates_of d.candidates) after) (sym memory) both.1 in
+            record {
+              reply = step.reply;
+              memory = memory;
+              told = step.told ∙ same.1;
+              allowed = both.0;
+              stands = subst (λ o. StandsOver new.geometry new.memory o after) (sym at) (subst (λ h. StandsOver h new.memory (Some d) after) (sym step.geometry) standing);
+              cuts = since_then g after (calls_in (call_in old turn)) (moment old.disk) (moment new.disk) (left old.disk) (left new.disk) d
+                  (subst (λ o. Passes (calls_in (call_in old turn)) o (moment old.disk) (moment new.disk) (left old.disk) (left new.disk)) at step.made.time)
+                  (λ image crash. machine_cut g new.memory (contents_of d.now) (candidates_of d.candidates) after (contents_of image) standing (((crashes_are_cuts g g.block_size d image (shaped new.disk d at g sizes)).0 crash).1));
+            }
+
+    -- what the step keeps for readers and for devices given up forward
+    pub step_keeps_on : (f : Flat) → StandsIn content old f → KeepsOn content faults old turn tells_so new f
+    step_keeps_on f stands = go (content old.disk) refl (content new.disk) refl step.made.disk stands
+      where
+        no_fault : (call : Option Call) (reply : Reply) → HasFault call reply (faults old.disk) (faults new.disk) → (Rose (faults old.disk) (faults new.disk) → ⊥) → reply ≡ Failed → call ≡ None
+        no_fault None reply has quiet failed = refl
+        no_fault (Some call) Failed has quiet failed = absurd (quiet has)
+        no_fault (Some call) Succeeded has quiet failed = absurd (cc failed)
+        no_fault (Some call) (Gave v) has quiet failed = absurd (cc failed)
+
+        go : (o : Option Content) → content old.disk ≡ o → (n : Option Content) → content new.disk ≡ n → Goes (DoesOne (call_in old turn) step.reply) o n → StandsOver g m o f → KeepsOn content faults old turn tells_so new f
+        go None is n at goes stands = absurd stands
+        go (Some c) is None at goes stands = absurd goes
+        go (Some c) is (Some d) at goes stands =
+            let does = does_it g c d (shaped old.disk c is g opened.sizes) (shaped new.disk d at g step.made.sizes) (call_in old turn) step.reply (calls_are_on_device g m (turn_of turn) opened.sound) goes in
+            let same = disk_by_reply g m (turn_of turn) step.reply unknown (seen (content old.disk)) in
+            let memory : new.memory ≡ (step_seen content old turn step.reply).memory = step.memory ∙ same.0 in
+            let at_now : (step_of g (contents_of c.now) m (task_in old turn) step.reply).memory ≡ new.memory = ap (λ (n : Contents). (step_of g n m (task_in old turn) step.reply).memory) (sym (ap seen is)) ∙ sym memory in
+            let events = ap (λ (n : Contents). after_all g.blocks (step_of g n m (task_in old turn) step.reply).events f) (sym (ap seen is)) in
+            let put : (o : Option Content) → o ≡ Some d → content new.disk ≡ o = λ o e. at ∙ sym e in
+            record {
+              reply = step.reply;
+              memory = memory;
+              told = step.told ∙ same.1;
+              led = λ quiet led.
+                  let was = subst (λ o. LedOver g m o f) is led in
+                  let now = led_keeps g m (turn_of turn) step.reply (contents_of c.now) (contents_of d.now) (candidates_of c.candidates) (candidates_of d.candidates) f stands was (no_fault (call_in old turn) step.reply step.made.cause quiet) does in
+                  let own = subst (λ (n : Memory). IsLed g n (contents_of d.now) (candidates_of d.candidates) (after_all g.blocks (step_of g (contents_of c.now) m (task_in old turn) step.reply).events f)) at_now now in
+                  let after = subst (λ e. IsLed g new.memory (contents_of d.now) (candidates_of d.candidates) e) events own in
+                  subst (λ o. LedOver new.geometry new.memory o (state_after content old turn step.reply f)) (sym at) (subst (λ h. LedOver h new.memory (Some d) (state_after content old turn step.reply f)) (sym step.geometry) after);
+              older = λ log next behind phase here there stood.
+                  let was = subst (λ o. BehindOver g o log behind) is stood in
+                  let now = older_logs_stay g m (turn_of turn) step.reply (contents_of c.now) (contents_of d.now) (candidates_of c.candidates) (candidates_of d.candidates) f log next behind stands phase here was does (ap (λ (n : Memory). n.log) at_now ∙ there) in
+                  let own = subst (λ h. BehindOver h (Some d) next behind ⊎ BehindOver h (Some d) next (log ∷ behind)) (sym step.geometry) now in
+                  subst (λ o. BehindOver new.geometry o next behind ⊎ BehindOver new.geometry o next (log ∷ behind)) (sym at) own;
+            }

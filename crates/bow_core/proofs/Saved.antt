@@ -1,0 +1,154 @@
+-- The saved blocks stay known where blocks are given other kinds.
+use Rattle.std.proofs.Common.{ℕ, ◌+◌, ◌≡◌, ◌<◌, ◌≤◌, Bool, true, false, cond, List, length, refl, sym, ap, ◌∙◌, arith, inl, inr}
+use Rattle.std.specs.Prelude.{◌&&◌, ◌==◌, ◌-◌, not, map}
+use Rattle.std.proofs.lemmas.Bool.{eqb-true, false≢true}
+use Rattle.std.proofs.lemmas.List.{same_lists, get_or_default}
+use Rattle.std.specs.List.{list_any}
+use Rattle.bow_units.specs.declared.sizes.Extent.{Extent}
+use Rattle.bow_units.specs.declared.requests.Phase.{Phase}
+use Rattle.bow_units.specs.declared.requests.Phase.TheVariants.{Trim, Arming, Checkpoint, Deciding, Committed}
+use Rattle.bow_units.specs.declared.statuses.Kind.{Kind}
+use Rattle.bow_units.specs.declared.statuses.Kind.TheVariants.{Sector0, Current, Unchanged, Free, Changed, Backup, Saved}
+use Rattle.bow_ranges.specs.Kinds.{kind_at, holds, with_kind, reclaimed, kind_reclaimed, is_changed}
+use Rattle.bow_machine.specs.Memory.{kind_written}
+use Rattle.bow_machine.proofs.Tables.{length_with, length_unsaved, kind_in, kind_out, kind_unsaved, holds_cases}
+use Rattle.bow_guard.specs.Device.{unsaved}
+use Rattle.bow_ranges.proofs.KindLists.{kind_at-reclaimed}
+use Rattle.bow_machine.specs.Steps.{above_0}
+use Rattle.bow_core.specs.Inside.{is_saved, SavedIs}
+
+-- blocks that are not saved are given a kind that is not saved either
+pub saved_set : (table : List Kind) (e saved : Extent) (kind : Kind) → e.first + e.count ≤ length table → ((b : ℕ) → e.first ≤ b → b < e.first + e.count → is_saved (kind_at table b) ≡ false) → is_saved kind ≡ false
+    → SavedIs table saved → SavedIs (with_kind table e kind) saved
+saved_set table e saved kind inside old new is = record {
+  inside = rw (length_with table e kind inside) is.inside;
+  each = λ b within. go b (omega (arith, within, length_with table e kind inside));
+}
+  where
+    go : (b : ℕ) → b < length table → is_saved (kind_at (with_kind table e kind) b) ≡ holds saved b
+    go b within = elim (holds_cases e b) [
+      | inl in_it ↦ rw (kind_in table e kind b inside in_it.0 in_it.1, new) (sym (old b in_it.0 in_it.1) ∙ is.each b within)
+      | inr out ↦ rw (kind_out table e kind b inside out.0) (is.each b within)
+    ]
+
+-- the same of a table that is that one
+pub saved_to : (table new : List Kind) (e saved : Extent) (kind : Kind) → new ≡ with_kind table e kind → e.first + e.count ≤ length table → ((b : ℕ) → e.first ≤ b → b < e.first + e.count → is_saved (kind_at table b) ≡ false) → is_saved kind ≡ false
+    → SavedIs table saved → SavedIs new saved
+saved_to table new e saved kind set inside old other is = rw set (saved_set table e saved kind inside old other is)
+
+-- a write in place saves no block
+pub written_unsaved : (phase : Phase) (kind : Kind) → is_saved kind ≡ false → is_saved (kind_written phase kind) ≡ false
+written_unsaved Trim kind is = refl
+written_unsaved Checkpoint Free is = refl
+written_unsaved Checkpoint Sector0 is = refl
+written_unsaved Checkpoint Current is = refl
+written_unsaved Checkpoint Unchanged is = refl
+written_unsaved Checkpoint Changed is = refl
+written_unsaved Checkpoint Backup is = refl
+written_unsaved Checkpoint Saved is = is
+written_unsaved Arming kind is = is
+written_unsaved Deciding kind is = is
+written_unsaved Committed kind is = is
+
+reclaimed_same : (t : Bool) (kind : Kind) → is_saved (cond (is_changed kind && t) Free kind) ≡ is_saved kind
+reclaimed_same true Changed = refl
+reclaimed_same false Changed = refl
+reclaimed_same t Sector0 = refl
+reclaimed_same t Current = refl
+reclaimed_same t Unchanged = refl
+reclaimed_same t Free = refl
+reclaimed_same t Backup = refl
+reclaimed_same t Saved = refl
+
+-- neither does a discard
+pub saved_reclaimed : (table new : List Kind) (e saved : Extent) (but : List Extent) → new ≡ reclaimed table e but → length new ≡ length table → SavedIs table saved → SavedIs new saved
+saved_reclaimed table new e saved but set long is = record {
+  inside = omega (arith, long, is.inside);
+  each = λ b within.
+      let here : b < length table = omega (arith, long, within) in
+      let kind : kind_at new b ≡ kind_reclaimed e but b (kind_at table b) = ap (λ l. kind_at l b) set ∙ kind_at-reclaimed table e but b here in
+      ap is_saved kind ∙ reclaimed_same (holds e b && not (list_any (λ other. holds other b) but)) (kind_at table b) ∙ is.each b here;
+}
+
+-- without block 0 an extent is on the device where it was
+pub above_inside : (e : Extent) (n : ℕ) → 1 ≤ n → e.first + e.count ≤ n → (above_0 e).first + (above_0 e).count ≤ n
+above_inside e n some inside = go (e.first == 0) refl
+  where
+    go : (b : Bool) → (e.first == 0) ≡ b → (cond b (record { first = 1; count = e.count - 1 }) e).first + (cond b (record { first = 1; count = e.count - 1 }) e).count ≤ n
+    go true is = omega (arith, eqb-true e.first 0 is, some, inside)
+    go false is = inside
+
+-- ----------------------------------------------------------------------------------------------------------------
+-- A batch saves blocks, and in the end they are changed.
+
+is_saved_is : (kind : Kind) → is_saved kind ≡ true → kind ≡ Saved
+is_saved_is Saved is = refl
+is_saved_is Sector0 is = absurd (false≢true is)
+is_saved_is Current is = absurd (false≢true is)
+is_saved_is Unchanged is = absurd (false≢true is)
+is_saved_is Free is = absurd (false≢true is)
+is_saved_is Changed is = absurd (false≢true is)
+is_saved_is Backup is = absurd (false≢true is)
+
+not_saved_is : (kind : Kind) → is_saved kind ≡ false → unsaved kind ≡ kind
+not_saved_is Saved is = absurd (false≢true (sym is))
+not_saved_is Sector0 is = refl
+not_saved_is Current is = refl
+not_saved_is Unchanged is = refl
+not_saved_is Free is = refl
+not_saved_is Changed is = refl
+not_saved_is Backup is = refl
+
+pub not_saved : (kind : Kind) → (kind ≡ Saved → ⊥) → is_saved kind ≡ false
+not_saved Saved other = absurd (other refl)
+not_saved Sector0 other = refl
+not_saved Current other = refl
+not_saved Unchanged other = refl
+not_saved Free other = refl
+not_saved Changed other = refl
+not_saved Backup other = refl
+
+same_kinds : (xs ys : List Kind) → length xs ≡ length ys → ((b : ℕ) → b < length xs → kind_at xs b ≡ kind_at ys b) → xs ≡ ys
+same_kinds xs ys sizes each = same_lists xs ys sizes (λ b d inside. get_or_default xs b d Unchanged inside ∙ each b inside ∙ get_or_default ys b Unchanged d (omega (arith, sizes, inside)))
+
+-- where nothing was saved, the blocks that are saved now are these
+pub saved_now : (table new : List Kind) (e : Extent) → new ≡ with_kind table e Saved → e.first + e.count ≤ length table → ((b : ℕ) → b < length table → is_saved (kind_at table b) ≡ false) → SavedIs new e
+saved_now table new e set inside none = rw set (record {
+  inside = rw (length_with table e Saved inside) inside;
+  each = λ b within. go b (omega (arith, within, length_with table e Saved inside));
+})
+  where
+    go : (b : ℕ) → b < length table → is_saved (kind_at (with_kind table e Saved) b) ≡ holds e b
+    go b within = elim (holds_cases e b) [
+      | inl in_it ↦ ap is_saved (kind_in table e Saved b inside in_it.0 in_it.1) ∙ sym in_it.2
+      | inr out ↦ ap is_saved (kind_out table e Saved b inside out.0) ∙ none b within ∙ sym out.1
+    ]
+
+-- once they are changed, what was saved is changed
+pub unsaved_is : (table new : List Kind) (saved : Extent) → new ≡ with_kind table saved Changed → SavedIs table saved → new ≡ map unsaved table
+unsaved_is table new saved set is = set ∙ same_kinds (with_kind table saved Changed) (map unsaved table) (length_with table saved Changed is.inside ∙ sym (length_unsaved table)) (λ b within. go b (omega (arith, within, length_with table saved Changed is.inside)))
+  where
+    go : (b : ℕ) → b < length table → kind_at (with_kind table saved Changed) b ≡ kind_at (map unsaved table) b
+    go b within = elim (holds_cases saved b) [
+      | inl in_it ↦ kind_in table saved Changed b is.inside in_it.0 in_it.1 ∙ ap unsaved (sym (is_saved_is (kind_at table b) (is.each b within ∙ in_it.2))) ∙ sym (kind_unsaved table b)
+      | inr out ↦ kind_out table saved Changed b is.inside out.0 ∙ sym (not_saved_is (kind_at table b) (is.each b within ∙ out.1)) ∙ sym (kind_unsaved table b)
+    ]
+
+-- and nothing is saved any more
+pub saved_none : (table new : List Kind) (saved none : Extent) → new ≡ with_kind table saved Changed → SavedIs table saved → none.first ≡ 0 → none.count ≡ 0 → SavedIs new none
+saved_none table new saved none set is first count = rw set (record {
+  inside = omega (arith, first, count);
+  each = λ b within. go b (omega (arith, within, length_with table saved Changed is.inside));
+})
+  where
+    empty : (b : ℕ) → holds none b ≡ false
+    empty b = elim (holds_cases none b) [
+      | inl in_it ↦ absurd (omega (arith, in_it.0, in_it.1, count))
+      | inr out ↦ out.1
+    ]
+
+    go : (b : ℕ) → b < length table → is_saved (kind_at (with_kind table saved Changed) b) ≡ holds none b
+    go b within = elim (holds_cases saved b) [
+      | inl in_it ↦ ap is_saved (kind_in table saved Changed b is.inside in_it.0 in_it.1) ∙ sym (empty b)
+      | inr out ↦ ap is_saved (kind_out table saved Changed b is.inside out.0) ∙ is.each b within ∙ out.1 ∙ sym (empty b)
+    ]

@@ -1,0 +1,9 @@
+pub mod Lines
+pub mod Rows
+pub mod Fitting
+pub mod Cutting
+pub mod Serving
+pub mod Going
+pub mod Steps
+pub mod Ending
+pub mod Reading

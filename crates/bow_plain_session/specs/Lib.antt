@@ -1,0 +1,11 @@
+pub mod Journal
+pub mod Lanes
+pub mod Requests
+pub mod Sessions
+pub mod Moments
+pub mod Cuts
+pub mod Served
+pub mod Contents
+pub mod Reserved
+pub mod Fits
+pub mod Desks
