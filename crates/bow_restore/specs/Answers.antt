@@ -4,9 +4,11 @@ use Rattle.bow_units.specs.declared.sizes.Geometry.{Geometry}
 use Rattle.bow_units.specs.Causes.{Rose}
 use Rattle.bow_units.specs.Magics.{HasMagic}
 use Rattle.bow_log.specs.Generations.{Generation}
-use Rattle.bow_disk.specs.Disk.{Content}
+use Rattle.bow_disk.specs.Disk.{Content, IsCrash}
 use Rattle.bow_chain.specs.Contents.{Contents, contents_of}
-use Rattle.bow_chain.specs.Kept.{IsPlain}
+use Rattle.bow_chain.specs.Sound.{IsSound}
+use Rattle.bow_chain.specs.Faults.{IsFirstFault}
+use Rattle.bow_chain.specs.Kept.{IsPlain, Holds}
 use Rattle.bow_chain.specs.declared.faults.ChainFault.{ChainFault}
 use Rattle.bow_chain.specs.declared.faults.ChainFault.TheVariants.{NoLog, BadLog, BadSequence, BadSum, DiskFault as ChainDiskFault, NoMemory as ChainNoMemory}
 use Rattle.bow_restore.specs.Marks.{entries_of, marks_of}
@@ -16,6 +18,30 @@ use Rattle.bow_disk.specs.Moments.{Tells}
 use Rattle.bow_restore.specs.Replaying.{IsFlushed, ChainReplayed, AreMade}
 use Rattle.bow_restore.specs.declared.answers.Restored.{Restored}
 use Rattle.bow_restore.specs.declared.answers.Restored.TheVariants.{Nothing, Done, Stopped, BadChain, DiskFault, NoMemory}
+
+-- so of a disk that tells a sound image: its content, the newest log and the older ones
+abbrev pub FromSound : {T : Type 0} → Geometry → (T → Option Content) → T
+    → (Content → Generation → List Generation → Type 0) → Type 0
+FromSound g content disk P = (c : Content) → content disk ≡ Some c → (log : Generation) (older : List Generation)
+    → IsSound g (contents_of c.now) log older → P c log older
+
+-- so of a disk that tells an image with this first fault
+abbrev pub FromFault : {T : Type 0} → Geometry → (T → Option Content) → T → (Content → ChainFault → Type 0) → Type 0
+FromFault g content disk P = (c : Content) → content disk ≡ Some c → (first : ChainFault)
+    → IsFirstFault g (contents_of c.now) first → P c first
+
+-- so where whatever a cut may leave of a disk holds this checkpoint: the used blocks, block 0 among them, and what was
+-- saved of each, a plain block 0
+abbrev pub FromHeld : {T : Type 0} → Geometry → (T → Option Content) → T → ((ℕ → Bool) → Contents → Type 0) → Type 0
+FromHeld g content disk P = (c : Content) → content disk ≡ Some c → (used : ℕ → Bool) (saved : Contents)
+    → used 0 ≡ true → IsPlain (saved 0)
+    → ((image : List (List ℕ)) → IsCrash c.candidates image → Holds g used saved (contents_of image)) → P used saved
+
+-- what cuts of a call leave holds the checkpoint too
+abbrev pub CutsHold : {T : Type 0} → Geometry → (T → ℕ) → (T → ℕ → List (List ℕ) → Type 0) → T → T → (ℕ → Bool)
+    → Contents → Type 0
+CutsHold g moment left_since old new used saved = (cut : List (List ℕ)) → left_since new (moment old) cut
+    → Holds g used saved (contents_of cut)
 
 -- it is a fault of the chain that an image has
 abbrev pub IsOfChain : ChainFault → Type 0

@@ -11,7 +11,7 @@ ghost use Rattle.bow_restore.specs.Marks.{marks_in, marks_of, entries_of};
 ghost use Rattle.bow_restore.specs.Copies.{log_copies, chain_copies, writes_in, writes_of};
 ghost use Rattle.bow_restore.specs.Limits.{IsLimit, GoesOn, StopsWithin, spent};
 ghost use Rattle.bow_restore.specs.Rewinds.{every};
-ghost use Rattle.bow_restore.specs.Replaying.{Replayed, PartReplayed, Holding, LogReplayed, ChainReplayed, AreMade, SameOthers, IsFlushed, HeadBack, IsHeadCut, stops_in, still_since};
+ghost use Rattle.bow_restore.specs.Replaying.{Replayed, PartReplayed, Holding, LogReplayed, ChainReplayed, AreMade, SameOthers, IsFlushed, HeadBack, IsHeadCut, stops_in, still_since, FromHolding, IsStoppedBy};
 ghost use Rattle.bow_disk.specs.Moments.{AddsCuts, Tells};
 ghost use Rattle.bow_chain.specs.Chains.{AreWhole, IsSoundWith, generations_of};
 ghost use Rattle.bow_restore.specs.Loops.{MarkedWhereDue, since_in, source_at};
@@ -103,20 +103,16 @@ fn replay_entries<D: Disk>(
     ensures stops { IfErr result (λ halt. halt ≡ Limit
         → StopsWithin left.old (writes_in (drop 1 (generation_of geometry log.now).entries))) }
     // What was copied, all or up to the limit.
-    ensures state { (c : Content) → D.content disk.old ≡ Some c → (older : List Generation)
-        → Holding geometry (generation_of geometry log.now) older c
-        → OnOk result (Tells D.content (PartReplayed geometry (kept (contents_of c.now) (generation_of geometry
+    ensures state { FromHolding geometry (generation_of geometry log.now) D.content disk.old (λ c older.
+        OnOk result (Tells D.content (PartReplayed geometry (kept (contents_of c.now) (generation_of geometry
         log.now ∷ older)) older
         (take 1 (generation_of geometry log.now).entries) (drop 1 (generation_of geometry log.now).entries) c)
-        disk.new) }
-    ensures part { (c : Content) → D.content disk.old ≡ Some c → (older : List Generation)
-        → Holding geometry (generation_of geometry log.now) older c → (k : ℕ) → left.old ≡ Some k
-        → IfErr result (λ halt. halt ≡ Limit
-        → Tells D.content (AreMade geometry (log_copies (generation_of geometry log.now).entries) k c) disk.new) }
-    ensures cuts { (c : Content) → D.content disk.old ≡ Some c → (older : List Generation)
-        → Holding geometry (generation_of geometry log.now) older c
-        → AddsCuts D.moment D.left_since (λ image. Keeps geometry every (kept (contents_of c.now) (generation_of
-        geometry log.now ∷ older)) (contents_of image)) disk.old disk.new }
+        disk.new)) }
+    ensures part { FromHolding geometry (generation_of geometry log.now) D.content disk.old (λ c older.
+        IsStoppedBy geometry (generation_of geometry log.now) left.old D.content disk.new c result) }
+    ensures cuts { FromHolding geometry (generation_of geometry log.now) D.content disk.old (λ c older.
+        AddsCuts D.moment D.left_since (λ image. Keeps geometry every (kept (contents_of c.now) (generation_of
+        geometry log.now ∷ older)) (contents_of image)) disk.old disk.new) }
     ensures sizes { D.stated disk.new ≡ Some geometry }
     ensures faults { D.faults disk.old ≤ D.faults disk.new }
     ensures cause { IfErr result (λ halt. halt ≡ Fault → Rose (D.faults disk.old) (D.faults disk.new)) }
@@ -195,17 +191,13 @@ fn replay_log<D: Disk>(
     ensures stops { IfErr result (λ halt. halt ≡ Limit
         → StopsWithin left.old (stops_in is_last (generation_of geometry log.now).entries)) }
     // What was copied, all or up to the limit.
-    ensures whole { (c : Content) → D.content disk.old ≡ Some c → (older : List Generation)
-        → Holding geometry (generation_of geometry log.now) older c
-        → OnOk result (Tells D.content (LogReplayed geometry (generation_of geometry log.now) c) disk.new) }
-    ensures part { (c : Content) → D.content disk.old ≡ Some c → (older : List Generation)
-        → Holding geometry (generation_of geometry log.now) older c → (k : ℕ) → left.old ≡ Some k
-        → IfErr result (λ halt. halt ≡ Limit
-        → Tells D.content (AreMade geometry (log_copies (generation_of geometry log.now).entries) k c) disk.new) }
-    ensures cuts { (c : Content) → D.content disk.old ≡ Some c → (older : List Generation)
-        → Holding geometry (generation_of geometry log.now) older c
-        → AddsCuts D.moment D.left_since (λ image. Holds geometry every (kept (contents_of c.now) (generation_of
-        geometry log.now ∷ older)) (contents_of image)) disk.old disk.new }
+    ensures whole { FromHolding geometry (generation_of geometry log.now) D.content disk.old (λ c older.
+        OnOk result (Tells D.content (LogReplayed geometry (generation_of geometry log.now) c) disk.new)) }
+    ensures part { FromHolding geometry (generation_of geometry log.now) D.content disk.old (λ c older.
+        IsStoppedBy geometry (generation_of geometry log.now) left.old D.content disk.new c result) }
+    ensures cuts { FromHolding geometry (generation_of geometry log.now) D.content disk.old (λ c older.
+        AddsCuts D.moment D.left_since (λ image. Holds geometry every (kept (contents_of c.now) (generation_of
+        geometry log.now ∷ older)) (contents_of image)) disk.old disk.new) }
     ensures sizes { D.stated disk.new ≡ Some geometry }
     ensures faults { D.faults disk.old ≤ D.faults disk.new }
     ensures cause { IfErr result (λ halt. halt ≡ Fault → Rose (D.faults disk.old) (D.faults disk.new)) }

@@ -12,8 +12,6 @@ mod laws;
 mod marks;
 mod restoring;
 mod runs;
-#[cfg(test)]
-mod tests;
 
 pub use answers::{Forwarded, Restored};
 pub use forwarding::forward;

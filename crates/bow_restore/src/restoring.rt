@@ -1,13 +1,13 @@
 // Restoration, whole.
-ghost use Rattle.std.specs.Prelude.{◌≡◌, ◌≤◌, ◌∷◌, ◌⊎◌, ℕ, Bool, true, List, Some, IfOk, IfErr, MatchResult};
+ghost use Rattle.std.specs.Prelude.{◌≡◌, ◌≤◌, ◌∷◌, ◌⊎◌, ℕ, List, Some, IfOk, IfErr, MatchResult};
 ghost use Rattle.bow_units.specs.Causes.{Rose};
 ghost use Rattle.bow_disk.specs.Disk.{Goes, Same};
 ghost use Rattle.bow_chain.specs.Answers.{IsOutside};
 ghost use Rattle.bow_chain.specs.declared.faults.ChainFault.TheVariants.{DiskFault as ChainDiskFault};
 ghost use Rattle.bow_units.specs.Sizes.{IsValid};
 ghost use Rattle.bow_log.specs.Generations.{Generation};
-ghost use Rattle.bow_disk.specs.Disk.{Content, IsCrash, IsSettledOn};
-ghost use Rattle.bow_chain.specs.Contents.{Contents, contents_of};
+ghost use Rattle.bow_disk.specs.Disk.{Content, IsSettledOn};
+ghost use Rattle.bow_chain.specs.Contents.{contents_of};
 ghost use Rattle.bow_chain.specs.Sound.{IsSound};
 ghost use Rattle.bow_chain.specs.Kept.{IsPlain, kept, Holds};
 ghost use Rattle.bow_chain.specs.Chains.{IsSoundWith};
@@ -17,7 +17,7 @@ ghost use Rattle.bow_restore.specs.Limits.{IsLimit};
 ghost use Rattle.bow_restore.specs.Rewinds.{every, PassesOn};
 ghost use Rattle.bow_restore.specs.Replaying.{IsFlushed};
 ghost use Rattle.bow_disk.specs.Moments.{AddsCuts, AddsNoCut, Tells};
-ghost use Rattle.bow_restore.specs.Answers.{IsCaused, TellsHead, TellsSound, TellsFault, LeftBy, Untouched, EndsBack, IsRefusal};
+ghost use Rattle.bow_restore.specs.Answers.{IsCaused, TellsHead, TellsSound, TellsFault, LeftBy, Untouched, EndsBack, IsRefusal, FromSound, FromFault, FromHeld, CutsHold};
 
 use crate::answers::Restored;
 use crate::generations::replay;
@@ -101,11 +101,8 @@ fn restore_flushed<D: Disk>(
     requires limit { IsLimit limit }
     ensures cause { IsCaused limit (D.faults disk.old) (D.faults disk.new) result }
     ensures head { (c : Content) → D.content disk.old ≡ Some c → TellsHead (contents_of c.now 0) result }
-    ensures each_sound { (c : Content) → D.content disk.old ≡ Some c → (log : Generation) (older : List Generation)
-        → IsSound geometry (contents_of c.now) log older
-        → TellsSound limit (log ∷ older) result }
-    ensures each_fault { (c : Content) → D.content disk.old ≡ Some c → (first : ChainFault)
-        → IsFirstFault geometry (contents_of c.now) first → TellsFault first result }
+    ensures each_sound { FromSound geometry D.content disk.old (λ c log older. TellsSound limit (log ∷ older) result) }
+    ensures each_fault { FromFault geometry D.content disk.old (λ c first. TellsFault first result) }
     ensures left { (c : Content) → D.content disk.old ≡ Some c → IsFlushed c
         → (log : Generation) (older : List Generation) → IsSound geometry (contents_of c.now) log older
         → LeftBy geometry (log ∷ older) D.content disk.new c result }
@@ -150,18 +147,13 @@ pub fn restore<D: Disk>(
     ensures cause { IsCaused limit (D.faults disk.old) (D.faults disk.new) result }
     // Over a disk that tells its content: which answer, by the image at entry.
     ensures head { (c : Content) → D.content disk.old ≡ Some c → TellsHead (contents_of c.now 0) result }
-    ensures each_sound { (c : Content) → D.content disk.old ≡ Some c → (log : Generation) (older : List Generation)
-        → IsSound geometry (contents_of c.now) log older
-        → TellsSound limit (log ∷ older) result }
-    ensures each_fault { (c : Content) → D.content disk.old ≡ Some c → (first : ChainFault)
-        → IsFirstFault geometry (contents_of c.now) first → TellsFault first result }
+    ensures each_sound { FromSound geometry D.content disk.old (λ c log older. TellsSound limit (log ∷ older) result) }
+    ensures each_fault { FromFault geometry D.content disk.old (λ c first. TellsFault first result) }
     // What stands after it.
-    ensures left { (c : Content) → D.content disk.old ≡ Some c → (log : Generation) (older : List Generation)
-        → IsSound geometry (contents_of c.now) log older
-        → LeftBy geometry (log ∷ older) D.content disk.new c result }
-    ensures untouched { (c : Content) → D.content disk.old ≡ Some c → (first : ChainFault)
-        → IsFirstFault geometry (contents_of c.now) first
-        → Tells D.content (Untouched result c) disk.new }
+    ensures left { FromSound geometry D.content disk.old (λ c log older.
+        LeftBy geometry (log ∷ older) D.content disk.new c result) }
+    ensures untouched { FromFault geometry D.content disk.old (λ c first.
+        Tells D.content (Untouched result c) disk.new) }
     ensures plain { (c : Content) → D.content disk.old ≡ Some c → IsPlain (contents_of c.now 0)
         → Tells D.content (Untouched result c) disk.new }
     // What a cut leaves that might not have been left before passes on what the image at entry keeps.
@@ -171,15 +163,9 @@ pub fn restore<D: Disk>(
         → (cut : List (List ℕ)) → D.left_since disk.new (D.moment disk.old) cut → PassesOn geometry c.now cut }
     // Where whatever a cut might have left at entry holds the checkpoint, with a plain block 0, so does whatever a
     // cut of this call leaves; and once it ends with Done or Nothing the checkpoint is back.
-    ensures holds { (c : Content) → D.content disk.old ≡ Some c → (used : ℕ → Bool) (saved : Contents) → used 0 ≡ true
-        → IsPlain (saved 0)
-        → ((image : List (List ℕ)) → IsCrash c.candidates image → Holds geometry used saved (contents_of image))
-        → (cut : List (List ℕ)) → D.left_since disk.new (D.moment disk.old) cut
-        → Holds geometry used saved (contents_of cut) }
-    ensures back { (c : Content) → D.content disk.old ≡ Some c → (used : ℕ → Bool) (saved : Contents) → used 0 ≡ true
-        → IsPlain (saved 0)
-        → ((image : List (List ℕ)) → IsCrash c.candidates image → Holds geometry used saved (contents_of image))
-        → EndsBack geometry used saved D.content disk.new result }
+    ensures holds { FromHeld geometry D.content disk.old (CutsHold geometry D.moment D.left_since disk.old disk.new) }
+    ensures back { FromHeld geometry D.content disk.old (λ used saved.
+        EndsBack geometry used saved D.content disk.new result) }
     ensures sizes { D.stated disk.new ≡ Some geometry }
     ensures faults { D.faults disk.old ≤ D.faults disk.new }
 {

@@ -1,13 +1,12 @@
 // A boot: the attempts are marked, the checkpoint is put back where it is asked for, and the answer says how it ended.
-ghost use Rattle.std.specs.Prelude.{◌≡◌, ◌≤◌, ℕ, Bool, true, List, Option, Some, IfOk};
+ghost use Rattle.std.specs.Prelude.{◌≡◌, ◌≤◌, ℕ, true, List, Option, Some, IfOk};
 ghost use Rattle.bow_units.specs.Sizes.{IsValid};
 ghost use Rattle.bow_units.specs.Causes.{Rose};
-ghost use Rattle.bow_disk.specs.Disk.{Content, IsCrash};
-ghost use Rattle.bow_chain.specs.Contents.{Contents, contents_of};
-ghost use Rattle.bow_chain.specs.Kept.{IsPlain, Holds};
+ghost use Rattle.bow_disk.specs.Disk.{Content};
+ghost use Rattle.bow_chain.specs.Contents.{contents_of};
 ghost use Rattle.bow_restore.specs.Rewinds.{PassesOn};
 ghost use Rattle.bow_disk.specs.Moments.{AddsCuts, Tells as HoldsOf};
-ghost use Rattle.bow_restore.specs.Answers.{IsBack};
+ghost use Rattle.bow_restore.specs.Answers.{IsBack, FromHeld, CutsHold};
 ghost use Rattle.vold_meta.specs.Keeper.{Goes, TimeGoes};
 ghost use Rattle.vold_commands.specs.Boot.{IsToldAs, Backs, IsBackCaused, EndsBy, KeepsBy, end_calls, IsBootAnswer, IsBootCaused, BootLeaves, BootIsCut, IsPutBack, BootPuts, BootTime};
 
@@ -68,15 +67,9 @@ fn put_back<D: Disk>(alloc: Global, disk: &mut D, geometry: Geometry) -> Result<
     ensures back { (c : Content) → D.content disk.old ≡ Some c → Backs geometry D.content disk.new c result }
     ensures cuts { (c : Content) → D.content disk.old ≡ Some c
         → AddsCuts D.moment D.left_since (PassesOn geometry c.now) disk.old disk.new }
-    ensures holds { (c : Content) → D.content disk.old ≡ Some c → (used : ℕ → Bool) (saved : Contents) → used 0 ≡ true
-        → IsPlain (saved 0)
-        → ((image : List (List ℕ)) → IsCrash c.candidates image → Holds geometry used saved (contents_of image))
-        → (cut : List (List ℕ)) → D.left_since disk.new (D.moment disk.old) cut
-        → Holds geometry used saved (contents_of cut) }
-    ensures in_place { (c : Content) → D.content disk.old ≡ Some c → (used : ℕ → Bool) (saved : Contents)
-        → used 0 ≡ true → IsPlain (saved 0)
-        → ((image : List (List ℕ)) → IsCrash c.candidates image → Holds geometry used saved (contents_of image))
-        → IfOk result (λ _. HoldsOf D.content (IsBack geometry used saved) disk.new) }
+    ensures holds { FromHeld geometry D.content disk.old (CutsHold geometry D.moment D.left_since disk.old disk.new) }
+    ensures in_place { FromHeld geometry D.content disk.old (λ used saved.
+        IfOk result (λ _. HoldsOf D.content (IsBack geometry used saved) disk.new)) }
     ensures sizes { D.stated disk.new ≡ Some geometry }
     ensures faults { D.faults disk.old ≤ D.faults disk.new }
 {
@@ -144,15 +137,9 @@ pub fn boot<D: Disk, K: Keeper>(
     // What a cut leaves of the image.
     ensures cuts { (c : Content) → D.content disk.old ≡ Some c
         → AddsCuts D.moment D.left_since (PassesOn geometry c.now) disk.old disk.new }
-    ensures holds { (c : Content) → D.content disk.old ≡ Some c → (used : ℕ → Bool) (saved : Contents) → used 0 ≡ true
-        → IsPlain (saved 0)
-        → ((image : List (List ℕ)) → IsCrash c.candidates image → Holds geometry used saved (contents_of image))
-        → (cut : List (List ℕ)) → D.left_since disk.new (D.moment disk.old) cut
-        → Holds geometry used saved (contents_of cut) }
-    ensures in_place { (c : Content) → D.content disk.old ≡ Some c → (used : ℕ → Bool) (saved : Contents)
-        → used 0 ≡ true → IsPlain (saved 0)
-        → ((image : List (List ℕ)) → IsCrash c.candidates image → Holds geometry used saved (contents_of image))
-        → IfOk result (λ _. HoldsOf D.content (IsBack geometry used saved) disk.new) }
+    ensures holds { FromHeld geometry D.content disk.old (CutsHold geometry D.moment D.left_since disk.old disk.new) }
+    ensures in_place { FromHeld geometry D.content disk.old (λ used saved.
+        IfOk result (λ _. HoldsOf D.content (IsBack geometry used saved) disk.new)) }
     ensures sizes { D.stated disk.new ≡ Some geometry }
     ensures keeper_faults { K.faults keeper.old ≤ K.faults keeper.new }
     ensures disk_faults { D.faults disk.old ≤ D.faults disk.new }

@@ -13,8 +13,3 @@ pub use commands::{abort, committed, mark};
 pub use laws::boots_law;
 pub use questions::{needs_checkpoint, needs_rollback};
 pub use starting::{StartFault, start};
-
-#[cfg(test)]
-mod boot_tests;
-#[cfg(test)]
-mod tests;
