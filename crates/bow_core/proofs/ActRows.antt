@@ -1,11 +1,11 @@
 -- What the next act of a batch means for its slots, and what it leads to.
-use Rattle.std.proofs.Common.{ℕ, zero, suc, ◌+◌, ◌-◌, ◌*◌, ◌≡◌, ◌≢◌, ◌<◌, ◌≤◌, min, Bool, true, false, length, get_or, refl, sym, ap, ◌∙◌, subst, arith, inl, inr}
+use Rattle.std.proofs.Common.{ℕ, zero, suc, ◌+◌, ◌-◌, ◌*◌, ◌≡◌, ◌≢◌, ◌<◌, ◌≤◌, Bool, true, false, get_or, refl, sym, ap, ◌∙◌, subst, arith, inl, inr}
 use Rattle.std.proofs.lemmas.Bool.{cases_lt, false≢true}
 use Rattle.bow_units.specs.declared.sizes.Geometry.{Geometry}
 use Rattle.bow_units.specs.declared.statuses.Kind.{Kind}
 use Rattle.std.specs.Prelude.{List, Some}
 use Rattle.bow_log.specs.Generations.{Generation}
-use Rattle.bow_copy.specs.Acts.{IsJob, Progress, block_after, acts_before_log, next_act, after_act, is_write_log, log_tried}
+use Rattle.bow_copy.specs.Acts.{IsJob, Progress, acts_before_log, next_act, after_act, is_write_log, log_tried}
 use Rattle.bow_copy.specs.declared.jobs.Job.{Job}
 use Rattle.bow_copy.specs.declared.jobs.Job.TheVariants.{Rewrite, Link, Copy, Move}
 use Rattle.bow_copy.specs.declared.jobs.Act.{Act}

@@ -1,12 +1,12 @@
 -- The first log of a checkpoint, and the table as it is armed.
-use Rattle.std.proofs.Common.{ℕ, ◌*◌, ◌/◌, ◌≡◌, List, length, take, Option, Some, None, refl, sym, ap, ◌∙◌, subst, arith, false}
+use Rattle.std.proofs.Common.{ℕ, ◌≡◌, List, length, take, Option, Some, None, refl, sym, ap, ◌∙◌, subst, arith, false}
 use Rattle.std.specs.Option.{option_map}
 use Rattle.bow_units.specs.declared.sizes.Geometry.{Geometry}
 use Rattle.bow_units.specs.declared.sizes.Extent.{Extent}
 use Rattle.bow_units.specs.declared.statuses.Kind.{Kind}
 use Rattle.bow_units.specs.declared.statuses.Kind.TheVariants.{Current, Backup, Free}
 use Rattle.bow_queue.specs.declared.tickets.Ticket.{Ticket}
-use Rattle.bow_log.specs.Generations.{generation_of, fields_of, entry_of}
+use Rattle.bow_log.specs.Generations.{generation_of, fields_of}
 use Rattle.bow_log.specs.Spelling.{Fields, spell}
 use Rattle.bow_log.specs.Rules.{IsLog}
 use Rattle.bow_log.proofs.InBlocks.{in_blocks, in_sectors}
@@ -41,11 +41,10 @@ pub fields_again : (g : Geometry) (o : Option Fields) → LogFits g o → o ≡ 
 fields_again g None fits = refl
 fields_again g (Some l) fits = ap (λ x. Some x) (sym ((in_blocks g l fits).1))
 
--- an entry with the sum of some slots is that of the backup
-pub entry_is : (g : Geometry) (source dest count sum : ℕ) (slots : List (List ℕ)) → sum ≡ sum_of source slots
-    → record { source = source * (g.block_size / 512); dest = dest * (g.block_size / 512); size = count * g.block_size; sum = sum } ≡ entry_of g (copy_entry source dest count slots)
+-- a backup with the sum of some slots
+pub copy_is : (source dest count sum : ℕ) (slots : List (List ℕ)) → sum ≡ sum_of source slots → record { source = source; dest = dest; count = count; sum = sum } ≡ copy_entry source dest count slots
 unfolding sum_at
-entry_is g source dest count sum slots is = ap (λ (n : ℕ). record { source = source * (g.block_size / 512); dest = dest * (g.block_size / 512); size = count * g.block_size; sum = n }) is
+copy_is source dest count sum slots is = ap (λ (n : ℕ). record { source = source; dest = dest; count = count; sum = n }) is
 
 -- what the prepare in hand has read lies in the buffer
 pub held_block : (size : ℕ) (buffer : List ℕ) (h : Kept) (t : Ticket) (c b : ℕ) (v : List ℕ) → hand_of size buffer h ≡ Preparing t c b (FlushesCopies v) → take size buffer ≡ v

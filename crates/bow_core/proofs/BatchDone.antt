@@ -1,25 +1,24 @@
 -- An act of a batch, done: what the code made of the disk and of memory is the machine's step.
-use Rattle.std.specs.Prelude.{Result, Ok, Err, drop, slice_index_or}
+use Rattle.std.specs.Prelude.{Result, Ok, drop, slice_index_or}
 use Rattle.std.proofs.Common.{ℕ, ◌+◌, ◌*◌, ◌≡◌, ◌<◌, ◌==◌, List, [], ◌∷◌, ◌++◌, take, length, Bool, true, false, cond, Option, Some, None, refl, sym, ap, ◌∙◌, subst, arith}
 use Rattle.std.proofs.lemmas.Bool.{false≢true}
 use Rattle.bow_units.specs.declared.sizes.Geometry.{Geometry}
-use Rattle.bow_units.specs.declared.requests.Outcome.{Outcome}
 use Rattle.bow_queue.specs.declared.tickets.Ticket.{Ticket}
 use Rattle.bow_crc.specs.Sums.{first_blocks}
 use Rattle.bow_flat.specs.Flat.{Event}
 use Rattle.bow_disk.specs.Disk.{Content}
 use Rattle.bow_copy.specs.Acts.{Progress, acts, next_act, after_act, is_write_log, log_tried, step_of}
 use Rattle.bow_copy.specs.declared.jobs.Act.{Act}
-use Rattle.bow_copy.specs.declared.jobs.Act.TheVariants.{Read, Write, Flush, WriteLog, End}
+use Rattle.bow_copy.specs.declared.jobs.Act.TheVariants.{Read, WriteLog}
 use Rattle.bow_copy.specs.declared.jobs.After.{After}
-use Rattle.bow_copy.specs.declared.jobs.After.TheVariants.{Going, LogGiven, Clean, Failed as FailedAfter}
+use Rattle.bow_copy.specs.declared.jobs.After.TheVariants.{Going, LogGiven, Clean}
 use Rattle.bow_machine.specs.Requests.{Request, request_of}
-use Rattle.bow_machine.specs.Memory.{Memory, Batch, Hand, Empty, Batching, Preparing, Committing}
-use Rattle.bow_machine.specs.Calls.{Call, ReadCall, WriteCall, FlushCall, Reply, Failed, Succeeded, Gave}
-use Rattle.bow_machine.specs.Steps.{Step, Moved, moved, answered_for, act_step, call_in_hand, call_of_act, batch_after, went_on, changed, at_act, is_log_write, fault_after, fault_events, given_up}
+use Rattle.bow_machine.specs.Memory.{Memory, Batch, Hand, Empty, Batching}
+use Rattle.bow_machine.specs.Calls.{ReadCall, Reply, Failed, Succeeded, Gave}
+use Rattle.bow_machine.specs.Steps.{Step, Moved, moved, answered_for, act_step, call_in_hand, call_of_act, batch_after, went_on, changed, is_log_write, fault_after, fault_events, given_up}
 use Rattle.bow_machine.specs.Tasks.{Acts}
 use Rattle.bow_core.specs.Batches.{batch_in_hand, gone_on, let_go}
-use Rattle.bow_core.specs.Calls.{read_reply, reply_of}
+use Rattle.bow_core.specs.Calls.{read_reply}
 use Rattle.bow_core.specs.Held.{hand_of, slots_in, slots_of}
 use Rattle.bow_core.specs.Ports.{Makes}
 use Rattle.bow_core.specs.Steps.{IsDone, unknown}

@@ -1,28 +1,22 @@
 -- The log in memory just before it is written.
-use Rattle.std.proofs.Common.{ℕ, ◌+◌, ◌-◌, ◌*◌, ◌/◌, ◌≡◌, ◌<◌, ◌≤◌, min, false, true, List, [], ◌∷◌, ◌++◌, length, map, Option, Some, None, refl, sym, ap, ◌∙◌, subst, arith, inl, inr}
+use Rattle.std.proofs.Common.{ℕ, zero, suc, ◌+◌, ◌*◌, ◌≡◌, ◌<◌, ◌≤◌, min, false, true, List, length, Some, sym, ap, ◌∙◌, subst, arith, inl, inr}
 use Rattle.std.specs.Option.{option_map}
-use Rattle.std.specs.Prelude.{IsSome}
-use Rattle.std.proofs.lemmas.List.{map-append}
+use Rattle.std.proofs.lemmas.List.{length-map}
 use Rattle.bow_units.specs.declared.sizes.Geometry.{Geometry}
 use Rattle.bow_units.specs.declared.sizes.Extent.{Extent}
 use Rattle.bow_units.specs.declared.statuses.Kind.{Kind}
-use Rattle.bow_units.specs.declared.statuses.Kind.TheVariants.{Current, Saved, Backup}
-use Rattle.bow_log.specs.declared.entries.Entry.{Entry}
-use Rattle.bow_log.specs.Generations.{Backup as BackupOf, Generation, generation_of, fields_of, entry_of, magic_of}
+use Rattle.bow_units.specs.declared.statuses.Kind.TheVariants.{Backup, Current, Saved, Sector0}
+use Rattle.bow_log.specs.Generations.{Generation, IsBackup, backup_of, generation_of, room, with_backup}
 use Rattle.bow_log.specs.Spelling.{Fields}
-use Rattle.bow_log.specs.Rules.{IsLog}
-use Rattle.bow_log.proofs.InBlocks.{in_blocks, in_sectors}
 use Rattle.bow_copy.specs.Acts.{next_act}
 use Rattle.bow_copy.specs.declared.jobs.Act.TheVariants.{WriteLog}
-use Rattle.bow_copy.specs.declared.jobs.Job.{Job}
-use Rattle.bow_copy.specs.declared.jobs.Job.TheVariants.{Rewrite, Link, Copy, Move}
-use Rattle.bow_ranges.specs.Kinds.{kind_at, with_kind, holds}
+use Rattle.bow_copy.specs.declared.jobs.Job.TheVariants.{Link, Copy, Move}
+use Rattle.bow_ranges.specs.Kinds.{kind_at, with_kind}
 use Rattle.bow_machine.specs.Memory.{Memory, Batch, Batching}
-use Rattle.bow_machine.specs.MemoryIsSound.{MemoryIsSound, LogIsSound, JobIsReady}
+use Rattle.bow_machine.specs.MemoryIsSound.{MemoryIsSound, JobIsReady}
 use Rattle.bow_machine.specs.Steps.{log_for, kinds_for, copy_entry}
 use Rattle.bow_machine.proofs.BatchActs.{lead, lead_copy}
-use Rattle.bow_machine.proofs.SoundBatches.{InHand, in_hand_of, change}
-use Rattle.bow_machine.proofs.SoundLogs.{LogChange}
+use Rattle.bow_machine.proofs.SoundBatches.{InHand, in_hand_of}
 use Rattle.bow_machine.proofs.Tables.{length_with, kind_in, kind_out, holds_cases}
 use Rattle.bow_core.specs.Held.{slots_in}
 use Rattle.bow_core.specs.Inside.{is_saved, SavedIs}
@@ -39,54 +33,56 @@ module _ (g : Geometry) (m : Memory) (b : Batch) (s : MemoryIsSound g m) (held :
   ready : JobIsReady g m.kinds m.clean (i.log) b.progress.job b.progress.done b.slots
   ready = i.held.before (omega (arith, stands_at))
 
-  changes : LogChange g m.kinds m.trimmed (i.log) b.progress.job b.slots
-  changes = change g m b s i stands_at
-
-  -- the log after the change
-  abbrev pub next_log : Generation
-  next_log = log_for b.progress.job b.slots (i.log)
-
-  pub has_log : IsSome m.log
-  has_log = subst (λ o. IsSome o) (sym i.some) refl
-
-  pub next_is_log : (new : Fields) → new ≡ fields_of g next_log → IsLog g new
-  next_is_log new is = subst (IsLog g) (sym is) ((in_sectors g next_log s.sizes changes.sound.generation).0)
-
-  pub next_in_memory : (new : Fields) → new ≡ fields_of g next_log → Some (generation_of g new) ≡ option_map (log_for b.progress.job b.slots) m.log
-  next_in_memory new is = ap (λ x. Some (generation_of g x)) is ∙ ap (λ x. Some x) ((in_sectors g next_log s.sizes changes.sound.generation).1) ∙ sym (ap (option_map (log_for b.progress.job b.slots)) i.some)
-
-  -- the log that is kept
-  module _ (l : Fields) (is_log : IsLog g l) (view : Some (generation_of g l) ≡ m.log) where
+  -- the log in memory after the change, of one that keeps it
+  module _ (l new : Fields) (view : Some (generation_of g l) ≡ m.log) where
     own : generation_of g l ≡ i.log
     own = let e : Some (generation_of g l) ≡ Some (i.log) = view ∙ i.some in cc e
 
-    l_is : l ≡ fields_of g (i.log)
-    l_is = sym ((in_blocks g l is_log).1) ∙ ap (fields_of g) own
+    pub copy_log : (source dest count : ℕ) (slots : List (List ℕ)) → b.progress.job ≡ Copy source dest count → slots ≡ b.slots → generation_of g new ≡ with_backup (generation_of g l) (copy_entry source dest count slots)
+        → Some (generation_of g new) ≡ option_map (log_for b.progress.job b.slots) m.log
+    copy_log source dest count slots job same is =
+        let added = is ∙ ap (λ x. with_backup x (copy_entry source dest count slots)) own ∙ ap (λ v. with_backup i.log (copy_entry source dest count v)) same ∙ sym (ap (λ j. log_for j b.slots i.log) job) in
+        ap (λ x. Some x) added ∙ sym (ap (option_map (log_for b.progress.job b.slots)) i.some)
 
-    pub copy_log : (source dest count : ℕ) (entry : Entry) → b.progress.job ≡ Copy source dest count → entry ≡ entry_of g (copy_entry source dest count b.slots)
-        → record l { entries = l.entries ++ entry ∷ [] } ≡ fields_of g next_log
-    copy_log source dest count entry job is =
-        let x = i.log in
-        let e = copy_entry source dest count b.slots in
-        ap (λ (f : Fields). record f { entries = f.entries ++ entry ∷ [] }) l_is
-        ∙ ap (λ (n : Entry). record (fields_of g x) { entries = map (entry_of g) x.entries ++ n ∷ [] }) is
-        ∙ ap (λ (es : List Entry). record (fields_of g x) { entries = es }) (sym (map-append (entry_of g) x.entries (e ∷ [])))
-        ∙ sym (ap (λ j. fields_of g (log_for j b.slots x)) job)
+    -- a copy is made where the log has room
+    pub copy_room : (source dest count : ℕ) → b.progress.job ≡ Copy source dest count → length l.entries < room g.block_size
+    copy_room source dest count job =
+        let r = subst (λ j. JobIsReady g m.kinds m.clean (i.log) j b.progress.done b.slots) job ready in
+        let same = ap (λ (x : Generation). length x.entries) own in
+        omega (arith, (r.0).not_full, same, length-map l.entries (backup_of g))
 
-    pub link_log : (dest : ℕ) (entry : Entry) → b.progress.job ≡ Link dest → entry ≡ entry_of g (copy_entry 0 dest 1 b.slots)
-        → record l { sequence = l.sequence + 1; entries = entry ∷ [] } ≡ fields_of g next_log
-    link_log dest entry job is =
-        let x = i.log in
-        ap (λ (f : Fields). record f { sequence = f.sequence + 1; entries = entry ∷ [] }) l_is
-        ∙ ap (λ t. record (fields_of g x) { magic = magic_of t; sequence = x.sequence + 1; entries = entry ∷ [] }) i.kept.own
-        ∙ ap (λ (n : Entry). record (fields_of g x) { magic = magic_of false; sequence = x.sequence + 1; entries = n ∷ [] }) is
-        ∙ sym (ap (λ j. fields_of g (log_for j b.slots x)) job)
+  -- a block of a kind that block 0 never has
+  above_0 : (x : ℕ) → (kind_at m.kinds x ≡ Sector0 → ⊥) → 0 < x
+  above_0 zero other = absurd (other s.table.zeroth)
+  above_0 (suc x) other = omega arith
 
-    pub move_log : (from to sector : ℕ) → b.progress.job ≡ Move from to → sector ≡ to * (g.block_size / 512)
-        → record l { sector0 = sector } ≡ fields_of g next_log
-    move_log from to sector job is =
-        let x = i.log in
-        ap (λ (f : Fields). record f { sector0 = sector }) l_is ∙ ap (λ n. record (fields_of g x) { sector0 = n }) is ∙ sym (ap (λ j. fields_of g (log_for j b.slots x)) job)
+  backup_above : (x : ℕ) → kind_at m.kinds x ≡ Backup → 0 < x
+  backup_above x is = above_0 x (λ zeroth. absurd (grind (arith, is, zeroth)))
+
+  -- the backups that are noted
+  pub copy_backup : (source dest count : ℕ) (slots : List (List ℕ)) → b.progress.job ≡ Copy source dest count → IsBackup g (copy_entry source dest count slots)
+  copy_backup source dest count slots job =
+      let r = subst (λ j. JobIsReady g m.kinds m.clean (i.log) j b.progress.done b.slots) job ready in
+      let none : dest + 0 ≡ dest = omega arith in
+      record {
+        some = (r.0).some;
+        source_inside = (r.0).source_inside;
+        dest_inside = (r.0).dest_inside;
+        apart = (r.0).apart;
+        dest_not_0 = backup_above dest (ap (kind_at m.kinds) (sym none) ∙ (r.0).dests 0 (omega (arith, (r.0).some)));
+      }
+
+  pub link_backup : (dest : ℕ) (slots : List (List ℕ)) → b.progress.job ≡ Link dest → IsBackup g (copy_entry 0 dest 1 slots)
+  link_backup dest slots job =
+      let r = subst (λ j. JobIsReady g m.kinds m.clean (i.log) j b.progress.done b.slots) job ready in
+      let above = backup_above dest (r.0).kind in
+      record {
+        some = omega arith;
+        source_inside = omega (arith, (r.0).inside);
+        dest_inside = omega (arith, (r.0).inside);
+        apart = inl (omega (arith, above));
+        dest_not_0 = above;
+      }
 
   -- nothing is saved before
   none_saved : m.clean ≡ true → (x : ℕ) → x < length m.kinds → is_saved (kind_at m.kinds x) ≡ false
@@ -97,23 +93,12 @@ module _ (g : Geometry) (m : Memory) (b : Batch) (s : MemoryIsSound g m) (held :
       let r = subst (λ j. JobIsReady g m.kinds m.clean (i.log) j b.progress.done b.slots) job ready in
       ((r.0).some, (r.0).few, (r.0).source_inside, (r.0).dest_inside)
 
-  pub link_inside : (dest : ℕ) → b.progress.job ≡ Link dest → dest < g.blocks
-  link_inside dest job = ((subst (λ j. JobIsReady g m.kinds m.clean (i.log) j b.progress.done b.slots) job ready).0).inside
-
-  pub move_inside : (from to : ℕ) → b.progress.job ≡ Move from to → (from < g.blocks) × (to < g.blocks)
-  move_inside from to job =
-      let r = subst (λ j. JobIsReady g m.kinds m.clean (i.log) j b.progress.done b.slots) job ready in
-      (omega (arith, (r.0).from_current, i.kept.generation.current_inside), (r.0).inside)
-
   -- how many slots were read
   pub copy_slots : (source dest count : ℕ) → b.progress.job ≡ Copy source dest count → slots_in b.progress.job b.progress.done ≡ count
   copy_slots source dest count job =
       let far : b.progress.done ≡ 2 * count + 1 = stands_at ∙ ap lead job ∙ lead_copy source dest count in
       let all : min b.progress.done count ≡ count = omega (arith, far) in
       ap (λ j. slots_in j b.progress.done) job ∙ all
-
-  pub link_slots : (dest : ℕ) → b.progress.job ≡ Link dest → slots_in b.progress.job b.progress.done ≡ 1
-  link_slots dest job = ap (λ j. slots_in j b.progress.done) job
 
   -- what is saved then
   pub copy_saved : (source dest count : ℕ) → b.progress.job ≡ Copy source dest count → (table new : List Kind) (e : Extent) → table ≡ m.kinds → e.first ≡ source → e.count ≡ count → new ≡ with_kind table e Saved

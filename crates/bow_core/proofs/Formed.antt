@@ -1,11 +1,10 @@
 -- The batch that is formed for the head, by the first rule that applies.
-use Rattle.std.proofs.Common.{ℕ, ◌+◌, ◌-◌, ◌^◌, ◌≡◌, ◌≢◌, ◌⊎◌, ◌<◌, ◌≤◌, ◌==◌, min, Bool, true, false, not, cond, List, [], ◌∷◌, length, Option, Some, None, refl, sym, ap, ◌∙◌, subst, arith, inl, inr}
+use Rattle.std.proofs.Common.{ℕ, ◌+◌, ◌-◌, ◌^◌, ◌≡◌, ◌≢◌, ◌<◌, ◌≤◌, ◌==◌, min, Bool, true, false, not, cond, List, [], ◌∷◌, length, Option, Some, None, refl, sym, ap, ◌∙◌, subst, arith, inl, inr}
 use Rattle.std.specs.Prelude.{unwrap_or, find}
 use Rattle.std.proofs.lemmas.Bool.{cases_Bool, false≢true, eq-eqb, eqb-true}
 use Rattle.bow_units.specs.declared.sizes.Geometry.{Geometry}
 use Rattle.bow_units.specs.declared.sizes.Extent.{Extent}
-use Rattle.bow_units.specs.declared.statuses.Kind.TheVariants.{Backup, Unchanged}
-use Rattle.bow_units.specs.declared.requests.Op.{Op}
+use Rattle.bow_units.specs.declared.statuses.Kind.TheVariants.{Backup}
 use Rattle.bow_units.specs.declared.requests.Op.TheVariants.{Write, Flush}
 use Rattle.bow_units.specs.declared.requests.Phase.TheVariants.{Checkpoint}
 use Rattle.bow_units.specs.declared.requests.Outcome.TheVariants as outcomes
@@ -20,7 +19,7 @@ use Rattle.bow_machine.specs.Requests.{Request, request_of}
 use Rattle.bow_machine.specs.Memory.{Memory, Batch, Empty, Batching, is_kind_current, may_be_written, reserved}
 use Rattle.bow_machine.specs.MemoryIsSound.{MemoryIsSound, LogIsHeld, LogIsSound}
 use Rattle.bow_machine.specs.Steps.{extent_of, log_of_memory, log_or_blank}
-use Rattle.bow_machine.specs.Tasks.{Task, Acts, Answers, Worker, task_of, worker_task, serve, formed, formed_for, head, needs_worker, batch_for, on_picked, copied_from, copy_onto, alike_from, is_source, spelling, with_batch, without_picked}
+use Rattle.bow_machine.specs.Tasks.{Task, Acts, Answers, Worker, task_of, worker_task, serve, formed, formed_for, head, batch_for, on_picked, copy_onto, alike_from, is_source, spelling, with_batch, without_picked}
 use Rattle.bow_machine.proofs.BatchStands.{working}
 use Rattle.bow_machine.proofs.FormedBatches.{kept_kinds, is_one, alike_most, alike_some}
 use Rattle.bow_machine.proofs.FormedHeads.{IsHead, head_is}
@@ -31,7 +30,7 @@ use Rattle.bow_machine.proofs.Tickets.{found_own}
 use Rattle.bow_machine.proofs.Workers.{memory_is}
 use Rattle.bow_core.specs.Batches.{IsServed}
 use Rattle.bow_core.specs.Held.{slots_of}
-use Rattle.bow_core.specs.Requests.{the_request}
+use Rattle.bow_queue.specs.Requests.{the_request}
 use Rattle.bow_core.specs.declared.tasks.Head.{Head}
 
 -- the request of a ticket has it

@@ -1,19 +1,16 @@
 -- The requests that wait were admitted, after a step and after an admission.
-use Rattle.std.proofs.Common.{ℕ, ◌+◌, ◌≡◌, ◌<◌, ◌==◌, Bool, true, false, cond, List, [], ◌∷◌, ◌++◌, ◌≤◌, length, Option, Some, None, sym, ap, ◌∙◌, subst, arith}
+use Rattle.std.proofs.Common.{ℕ, ◌+◌, ◌≡◌, ◌<◌, Bool, true, false, cond, List, [], ◌∷◌, ◌++◌, ◌≤◌, length, Option, Some, None, sym, ap, ◌∙◌, subst, arith}
 use Rattle.std.specs.List.{AllByRecursion as Each}
 use Rattle.bow_units.specs.declared.sizes.Geometry.{Geometry}
-use Rattle.bow_units.specs.declared.requests.Op.{Op}
-use Rattle.bow_units.specs.declared.requests.Op.TheVariants.{Read, Write, Discard, Flush, Prepare, Commit}
 use Rattle.bow_units.specs.declared.requests.Outcome.{Outcome}
-use Rattle.bow_units.specs.declared.requests.Outcome.TheVariants as outcomes
 use Rattle.bow_disk.specs.Disk.{Content}
 use Rattle.bow_queue.specs.declared.tickets.Ticket.{Ticket}
 use Rattle.bow_queue.specs.Requests.{same_ticket}
-use Rattle.bow_machine.specs.Requests.{Request, request_of, without_request, with_request, refusal}
-use Rattle.bow_machine.specs.Memory.{Memory, has_command, is_direct, Batch, Hand, Empty, Batching, Preparing, Committing, ReadsBlock0, WritesCurrent, WritesBackup, FlushesCopies, WritesFirstLog, FlushesFirstLog, FlushesAll, ReadsCurrent, WritesBlock0, FlushesDecision}
+use Rattle.bow_machine.specs.Requests.{Request, request_of, without_request, with_request}
+use Rattle.bow_machine.specs.Memory.{Memory, Batch, Hand, Empty, Batching, Preparing, Committing, ReadsBlock0, WritesCurrent, WritesBackup, FlushesCopies, WritesFirstLog, FlushesFirstLog, FlushesAll, ReadsCurrent, WritesBlock0, FlushesDecision}
 use Rattle.bow_machine.specs.MemoryIsSound.{MemoryIsSound, IsAdmissible}
 use Rattle.bow_machine.specs.Calls.{Reply, Failed, Succeeded, Gave}
-use Rattle.bow_machine.specs.Tasks.{Task, Turn, Waits, Answers, WritesBlock, ReadsBlock, FlushesFor, DiscardsFor, Acts, task_of, task_for, map_task, unless_refused, is_waiting}
+use Rattle.bow_machine.specs.Tasks.{Task, Waits, Answers, WritesBlock, ReadsBlock, FlushesFor, DiscardsFor, Acts, task_of}
 use Rattle.bow_machine.specs.Steps.{act_step, answered_for, changed, batch_after, is_log_write, prepare_after, commit_after, commit_failed}
 use Rattle.bow_machine.proofs.RequestLists.{each_filter, each_append, find_has}
 use Rattle.bow_machine.proofs.SoundTasks.{TaskIsSound}
@@ -24,7 +21,7 @@ use Rattle.bow_copy.specs.declared.jobs.After.{After}
 use Rattle.bow_copy.specs.declared.jobs.After.TheVariants as afters
 use Rattle.bow_machine.proofs.SoundSteps.{step_keeps_sound}
 use Rattle.bow_machine.proofs.SoundOpenings.{admit_keeps_sound}
-use Rattle.bow_core.specs.Held.{Held, with_memory}
+use Rattle.bow_core.specs.Held.{Held}
 use Rattle.bow_core.specs.Views.{View, view_of, IsGivenOut, IsOpened}
 use Rattle.bow_core.specs.Steps.{IsStep, done_by, unknown}
 use Rattle.bow_core.specs.declared.turns.Turn.{Turn as OwnTurn}
@@ -125,16 +122,18 @@ turn_opened stated content moment left faults old turn tells new opened step =
       given_out = subst (λ n. Each (IsGivenOut n) new.memory.requests) (sym step.admitted) given;
     }
 
+-- what waits was given out before the next serial number
+pub all_below : (r : Request) (n : ℕ) (requests : List Request) → r.ticket.serial ≡ n → Each (IsGivenOut n) requests → Each (λ other. other.ticket.serial < r.ticket.serial) requests
+all_below r n requests serial each = subst (λ k. Each (λ other. other.ticket.serial < k) requests) (sym serial) each
+
 -- after an admission
-pub admitted_opened : {D : Type 0} (stated : D → Option Geometry) (disk : D) (s now : Held) (r : Request) (n calls : ℕ) → IsOpened stated (view_of disk s n calls) → r.done ≡ 0 → r.ticket.serial ≡ n → IsAdmissible s.geometry r.op
-    → length s.memory.requests < s.places → now ≡ with_memory s (record s.memory { requests = s.memory.requests ++ r ∷ [] }) → IsOpened stated (view_of disk now (n + 1) calls)
-admitted_opened stated disk s now r n calls opened none serial fits place is =
-    subst (λ h. IsOpened stated (view_of disk h (n + 1) calls)) (sym is) (record {
+pub admitted_opened : {D : Type 0} (stated : D → Option Geometry) (disk : D) (s now : Held) (r : Request) (calls : ℕ) → IsOpened stated (view_of disk s calls) → r.done ≡ 0 → r.ticket.serial ≡ s.admitted → IsAdmissible s.geometry r.op
+    → length s.memory.requests < s.places → now ≡ record s { memory = record s.memory { requests = s.memory.requests ++ r ∷ [] }; admitted = s.admitted + 1 } → IsOpened stated (view_of disk now calls)
+admitted_opened stated disk s now r calls opened none serial fits place is =
+    let n = s.admitted in
+    subst (λ h. IsOpened stated (view_of disk h calls)) (sym is) (record {
       sizes = opened.sizes;
-      sound = admit_keeps_sound s.geometry s.memory r fits none (below s.memory.requests opened.given_out) (omega (arith, place, opened.few)) opened.sound;
+      sound = admit_keeps_sound s.geometry s.memory r fits none (all_below r n s.memory.requests serial opened.given_out) (omega (arith, place, opened.few)) opened.sound;
       few = opened.few;
       given_out = each_append (IsGivenOut (n + 1)) s.memory.requests (r ∷ []) (each_more n s.memory.requests opened.given_out) (omega (arith, serial), tt);
     })
-  where
-    below : (requests : List Request) → Each (IsGivenOut n) requests → Each (λ other. other.ticket.serial < r.ticket.serial) requests
-    below requests each = subst (λ k. Each (λ other. other.ticket.serial < k) requests) (sym serial) each

@@ -1,27 +1,25 @@
 -- From a step of the machine over a disk to the flat state.
 use Rattle.std.proofs.Common.{ℕ, zero, suc, ◌≡◌, ◌⊎◌, ◌<◌, ◌≤◌, ◌+◌, List, [], ◌∷◌, Option, Some, None, Bool, true, false, get_or, refl, sym, ap, ◌∙◌, subst, arith, inl, inr, ⊎_elim}
-use Rattle.std.specs.Prelude.{Contains, not, min, max, ◌-◌, ◌^◌}
+use Rattle.std.specs.Prelude.{Contains, not}
 use Rattle.std.proofs.lemmas.List.{get_or-set_same}
 use Rattle.std.proofs.lemmas.Bool.{false≢true, cases_Bool}
 use Rattle.bow_units.specs.Causes.{Rose}
 use Rattle.bow_units.specs.declared.sizes.Geometry.{Geometry}
-use Rattle.bow_units.specs.declared.requests.Outcome.{Outcome}
 use Rattle.bow_disk.specs.Disk.{Content, IsCrash, IsShaped, Goes, Same, Written}
 use Rattle.bow_chain.specs.Contents.{Contents, contents_of}
-use Rattle.bow_flat.specs.Flat.{Flat, Event}
+use Rattle.bow_flat.specs.Flat.{Flat}
 use Rattle.bow_guard.specs.Cuts.{candidates_of}
 use Rattle.bow_guard.specs.Standing.{StandsFor}
 use Rattle.bow_guard.proofs.Joined.{writes_are_given, flushes_are_done, crashes_are_cuts}
 use Rattle.bow_queue.specs.declared.tickets.Ticket.{Ticket}
-use Rattle.bow_machine.specs.Requests.{Request, request_of}
-use Rattle.bow_machine.specs.Memory.{Memory, Hand, Empty, Batching, Preparing, Committing, ReadsBlock0, WritesCurrent, WritesBackup, FlushesCopies, WritesFirstLog, FlushesFirstLog, FlushesAll, ReadsCurrent, WritesBlock0, FlushesDecision}
+use Rattle.bow_machine.specs.Requests.{Request}
+use Rattle.bow_machine.specs.Memory.{Memory, Hand}
 use Rattle.bow_machine.specs.Calls.{Call, ReadCall, WriteCall, FlushCall, Reply, Failed, Succeeded, Gave, DoesIt}
-use Rattle.bow_machine.specs.Tasks.{Task, Waits, Answers, WritesBlock, ReadsBlock, FlushesFor, DiscardsFor, Acts, task_of}
-use Rattle.bow_machine.specs.Steps.{Step, Told, Idle, Moved, Wrote, Got, Answered, answered_for, call_of, step_of, act_step}
+use Rattle.bow_machine.specs.Tasks.{Task, Waits, Answers, WritesBlock, ReadsBlock, FlushesFor, DiscardsFor, Acts}
+use Rattle.bow_machine.specs.Steps.{Step, Told, Idle, Moved, Wrote, Got, Answered, call_of, step_of, act_step}
 use Rattle.bow_machine.specs.Laws.{after_all, AllowsAll}
 use Rattle.bow_machine.specs.Ready.{is_ready, is_idle}
 use Rattle.bow_machine.specs.Standing.{IsStanding}
-use Rattle.bow_machine.specs.MemoryIsSound.{MemoryIsSound}
 use Rattle.bow_machine.specs.MemoryLaws.{IsOnDevice, FaultIsTold, tells_fault, served_by}
 use Rattle.bow_machine.proofs.Orders.{disk_by_reply}
 use Rattle.bow_machine.proofs.SoundCalls.{calls_are_on_device, faults_are_told, idle_changes_nothing, ready_is_table}
@@ -29,17 +27,30 @@ use Rattle.bow_machine.proofs.Whole.{step_keeps}
 use Rattle.bow_machine.proofs.Cuts.{machine_cut}
 use Rattle.bow_core.specs.Calls.{DoesOne, Passes, calls_in, HasFault, StaysWithout, Counted}
 use Rattle.bow_core.specs.Standing.{StandsOver, StandsIn, Leads, seen, step_seen, state_after}
-use Rattle.bow_core.specs.Steps.{IsStep, done_by, unknown, task_in, call_in, step_in}
+use Rattle.bow_core.specs.Steps.{IsStep, done_by, unknown, task_in, call_in}
 use Rattle.bow_core.specs.Turns.{turn_of, told_of}
 use Rattle.bow_core.specs.Views.{View, IsOpened}
 use Rattle.bow_core.specs.declared.turns.Turn.{Turn}
 use Rattle.bow_core.specs.declared.turns.Step.{Step as OwnStep}
-use Rattle.bow_log.specs.Generations.{Generation}
 use Rattle.bow_machine.specs.Ahead.{IsLed}
 use Rattle.bow_machine.proofs.Ahead.{led_keeps}
 use Rattle.bow_machine.proofs.SoundPast.{older_logs_stay}
-use Rattle.bow_core.specs.Further.{KeepsOn, LedIn, LedOver, BehindOver}
+use Rattle.bow_core.specs.Further.{KeepsOn, LedOver, BehindOver}
 use Rattle.bow_core.proofs.Replies.{can_have}
+use Rattle.bow_core.proofs.Telling.{acts_tell}
+use Rattle.std.specs.Prelude.{◌↔◌}
+use Rattle.bow_units.specs.declared.requests.Phase.TheVariants.{Arming}
+use Rattle.bow_units.specs.declared.statuses.Kind.{Kind}
+use Rattle.bow_units.specs.declared.requests.Outcome.TheVariants.{NoSpace}
+use Rattle.bow_log.specs.Generations.{Generation}
+use Rattle.bow_machine.specs.Memory.{reserved}
+use Rattle.bow_machine.specs.MemoryIsSound.{LogIsHeld}
+use Rattle.bow_machine.specs.MemoryLaws.{CanHaveIt}
+use Rattle.bow_machine.specs.Tasks.{task_of}
+use Rattle.bow_machine.proofs.SoundTies.{saved_is_next, touched_is_left, covered_stays_touched, logs_go_on, arming_is_untouched, checkpoint_follows}
+use Rattle.bow_core.specs.Room.{FindsNoSpace}
+use Rattle.bow_core.specs.Ties.{IsTied}
+use Rattle.bow_core.proofs.Spaces.{finds_none}
 
 same_it : (c d : Content) → Same c d → (contents_of d.now ≡ contents_of c.now) × (candidates_of d.candidates ≡ candidates_of c.candidates)
 same_it c d same = (ap contents_of same.0, ap candidates_of same.1)
@@ -81,37 +92,8 @@ tells (Wrote t i) = true
 tells (Got t i) = true
 tells (Answered t op outcome) = true
 
-answer_tells : (left : Memory) (found : Option Request) (o : Request → Outcome) (happens : Request → List Event) → tells (answered_for left found o happens).told ≡ true
-answer_tells left None o happens = refl
-answer_tells left (Some r) o happens = refl
-
 act_tells : (g : Geometry) (m : Memory) (hand : Hand) (reply : Reply) → tells (act_step g unknown m hand reply).told ≡ true
-act_tells g m Empty reply = refl
-act_tells g m (Batching b) Failed = answer_tells _ (request_of b.ticket m.requests) _ _
-act_tells g m (Batching b) Succeeded = refl
-act_tells g m (Batching b) (Gave v) = refl
-act_tells g m (Preparing t c b act) Failed = answer_tells _ (request_of t m.requests) _ _
-act_tells g m (Preparing t c b ReadsBlock0) Succeeded = refl
-act_tells g m (Preparing t c b ReadsBlock0) (Gave v) = refl
-act_tells g m (Preparing t c b (WritesCurrent w)) Succeeded = refl
-act_tells g m (Preparing t c b (WritesCurrent w)) (Gave v) = refl
-act_tells g m (Preparing t c b (WritesBackup w)) Succeeded = refl
-act_tells g m (Preparing t c b (WritesBackup w)) (Gave v) = refl
-act_tells g m (Preparing t c b (FlushesCopies w)) Succeeded = refl
-act_tells g m (Preparing t c b (FlushesCopies w)) (Gave v) = refl
-act_tells g m (Preparing t c b WritesFirstLog) Succeeded = refl
-act_tells g m (Preparing t c b WritesFirstLog) (Gave v) = refl
-act_tells g m (Preparing t c b FlushesFirstLog) Succeeded = answer_tells _ (request_of t m.requests) _ _
-act_tells g m (Preparing t c b FlushesFirstLog) (Gave v) = answer_tells _ (request_of t m.requests) _ _
-act_tells g m (Committing t again act) Failed = answer_tells _ (request_of t m.requests) _ _
-act_tells g m (Committing t again FlushesAll) Succeeded = refl
-act_tells g m (Committing t again FlushesAll) (Gave v) = refl
-act_tells g m (Committing t again ReadsCurrent) Succeeded = refl
-act_tells g m (Committing t again ReadsCurrent) (Gave v) = refl
-act_tells g m (Committing t again (WritesBlock0 w)) Succeeded = refl
-act_tells g m (Committing t again (WritesBlock0 w)) (Gave v) = refl
-act_tells g m (Committing t again FlushesDecision) Succeeded = answer_tells _ (request_of t m.requests) _ _
-act_tells g m (Committing t again FlushesDecision) (Gave v) = answer_tells _ (request_of t m.requests) _ _
+act_tells = acts_tell (λ told. tells told ≡ true) refl (λ r n. refl) (λ r. refl)
 
 task_tells : (g : Geometry) (m : Memory) (task : Task) (reply : Reply) → is_idle task ≡ false → tells (done_by g m task reply).told ≡ true
 task_tells g m Waits reply busy = absurd (false≢true (sym busy))
@@ -139,6 +121,11 @@ fault_cause requests served (Some call) (Gave v) told before now row has is = ab
 fault_cause requests served None Failed told before now row has is = absurd (false≢true (sym row ∙ is))
 fault_cause requests served None Succeeded told before now row has is = absurd (false≢true (sym row ∙ is))
 fault_cause requests served None (Gave v) told before now row has is = absurd (false≢true (sym row ∙ is))
+
+-- in Arming there is a log
+arming_log : (g : Geometry) (table : List Kind) (clean : Bool) (trimmed picked : ℕ) (log : Option Generation) → LogIsHeld g table clean trimmed picked Arming log → (l : Generation) × (log ≡ Some l)
+arming_log g table clean trimmed picked None held = absurd held
+arming_log g table clean trimmed picked (Some l) held = (l, refl)
 
 one_at_most : (call : Option Call) → calls_in call ≤ 1
 one_at_most None = omega arith
@@ -186,6 +173,30 @@ module _ {D : Type 0} (stated : D → Option Geometry) (content : D → Option C
 
   pub one_call : (old.calls ≤ new.calls) × (new.calls ≤ old.calls + 1)
   one_call = let few = one_at_most (call_in old turn) in let counted : Counted (calls_in (call_in old turn)) old.calls new.calls = step.made.counted in (omega (arith, counted), omega (arith, counted, few))
+
+  can : CanHaveIt g (call_of g m (task_of g m (turn_of turn))) step.reply
+  can = can_have g _ step.reply step.made.may
+
+  pub step_space : (r : Request) → (told_of tells_so ≡ Answered r.ticket r.op (NoSpace r.done)) ↔ FindsNoSpace g m turn r
+  step_space r =
+      let both = finds_none g m step.reply opened.sound turn r can in
+      (λ tells. both.0 (sym step.told ∙ tells), λ none. step.told ∙ both.1 none)
+
+  pub step_tied : IsTied g m new.memory
+  step_tied = subst (IsTied g m) (sym step.memory) (record {
+    saved = λ b on is. saved_is_next g m (turn_of turn) step.reply unknown b opened.sound can on is;
+    touched = λ b on is. touched_is_left g m (turn_of turn) step.reply unknown b opened.sound can on is;
+    covered = λ b on covers is not. covered_stays_touched g m (turn_of turn) step.reply unknown b opened.sound can on covers is not;
+    logs = λ log next here there. logs_go_on g m (turn_of turn) step.reply unknown log next opened.sound can here there;
+    begins = λ is. checkpoint_follows g m (turn_of turn) step.reply unknown opened.sound can is;
+    arming = λ is. untouched is;
+  })
+    where
+      untouched : m.phase ≡ Arming → ((done_by g m (task_in old turn) step.reply).memory.log ≡ m.log) × ((done_by g m (task_in old turn) step.reply).memory.kinds ≡ m.kinds)
+      untouched is =
+          let log = arming_log g m.kinds m.clean m.trimmed (reserved m.hand).count m.log (subst (λ p. LogIsHeld g m.kinds m.clean m.trimmed (reserved m.hand).count p m.log) is opened.sound.log) in
+          let stays = arming_is_untouched g m (turn_of turn) step.reply unknown log.0 opened.sound can is log.1 in
+          (stays.1, stays.2)
 
   module _ (shaped : (d : D) (c : Content) → content d ≡ Some c → (g : Geometry) → stated d ≡ Some g → IsShaped g.block_size g.blocks c) where
     -- it leads from each state for which the device stood

@@ -28,9 +28,9 @@ use Rattle.bow_machine.proofs.SoundLists.{found_waiting}
 use Rattle.bow_machine.proofs.SoundTasks.{TaskIsSound, WritesNext, ReadsNext, map_sound}
 use Rattle.bow_machine.proofs.SoundCalls.{calls_are_on_device, ready_is_table}
 use Rattle.bow_machine.specs.Ready.{is_idle, is_ready}
-use Rattle.bow_core.specs.Requests.{the_request}
+use Rattle.bow_queue.specs.Requests.{the_request}
 use Rattle.bow_core.specs.Inside.{is_saved}
-use Rattle.bow_core.specs.Requests.{one_done, one_read}
+use Rattle.bow_queue.specs.Requests.{one_done, one_read}
 use Rattle.bow_core.specs.Calls.{reply_of, read_reply, DoesOne}
 use Rattle.bow_core.specs.Ports.{Makes}
 use Rattle.bow_core.specs.Steps.{IsDone, done_by}

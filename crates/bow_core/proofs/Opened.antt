@@ -1,5 +1,5 @@
 -- What the calls of an opening leave, and the state for which an opened device stands.
-use Rattle.std.proofs.Common.{ℕ, ◌≡◌, ◌⊎◌, ◌+◌, ◌<◌, ◌≤◌, List, [], ◌∷◌, length, map, get_or, Option, Some, None, refl, sym, ap, ◌∙◌, subst, arith, inl, inr}
+use Rattle.std.proofs.Common.{ℕ, ◌≡◌, ◌+◌, ◌≤◌, List, [], ◌∷◌, length, get_or, Option, Some, None, refl, sym, ap, ◌∙◌, subst, arith, inl, inr}
 use Rattle.std.specs.Prelude.{Contains}
 use Rattle.std.proofs.lemmas.List.{get_or-map, length-map}
 use Rattle.std.proofs.lemmas.List.Elements.{Contains-push_cases}
@@ -7,11 +7,9 @@ use Rattle.bow_units.specs.declared.sizes.Geometry.{Geometry}
 use Rattle.bow_units.specs.Sizes.{IsValid}
 use Rattle.bow_units.specs.declared.requests.Op.TheVariants.{Flush}
 use Rattle.bow_disk.specs.Disk.{Content, IsShaped, IsCrash, Goes, Same, Flushed, KeepsSizes, TimeGoes}
-use Rattle.bow_disk.specs.Moments.{AddsNoCut}
 use Rattle.bow_disk.proofs.Moments.{goes_told, adds_then, adds_fewer, no_cut_sizes}
 use Rattle.bow_chain.specs.Contents.{contents_of}
-use Rattle.bow_flat.specs.Flat.{Flat, opening}
-use Rattle.bow_flat.specs.Valid.{HasNoMagic}
+use Rattle.bow_flat.specs.Flat.{opening}
 use Rattle.bow_guard.specs.Cuts.{Candidates, IsFlushed, candidates_of}
 use Rattle.bow_machine.specs.Requests.{Request}
 use Rattle.bow_machine.specs.Memory.{Memory}
@@ -19,6 +17,9 @@ use Rattle.bow_machine.specs.Calls.{Call, ReadCall, WriteCall, FlushCall, Reply,
 use Rattle.bow_machine.specs.Laws.{opened}
 use Rattle.bow_machine.specs.Standing.{IsStanding, HasBlocks}
 use Rattle.bow_machine.specs.Tasks.{Map}
+use Rattle.bow_machine.specs.Ahead.{IsLed}
+use Rattle.bow_machine.proofs.Ahead.{admit_is_led, opening_is_led, led_keeps}
+use Rattle.bow_core.specs.Further.{LedOver}
 use Rattle.bow_machine.proofs.Whole.{opening_stands, admit_stands, step_keeps}
 use Rattle.std.specs.Prelude.{Ok, Err, Result, slice_index_or}
 use Rattle.bow_core.specs.declared.device.OpenFault.{OpenFault}
@@ -54,16 +55,20 @@ flushed_crash size n c d shaped step image crash =
 flush_request : Request
 flush_request = record { ticket = record { key = 0; serial = 0 }; op = Flush; done = 0 }
 
--- A device opened on a disk whose blocks each have one candidate stands for the opening state of what they hold.
-pub opened_stands : (g : Geometry) (image : List (List ℕ)) (may : Candidates) → IsValid g → HasBlocks g (contents_of image) → HasNoMagic (contents_of image 0) → IsFlushed g (contents_of image) may
-    → IsStanding g (opened g.blocks) (contents_of image) may (opening image)
+-- A device opened on a disk whose blocks each have one candidate stands for the opening state of what they hold, and
+-- whatever a cut leaves of it is ahead.
+pub opened_stands : (g : Geometry) (image : List (List ℕ)) (may : Candidates) → IsValid g → HasBlocks g (contents_of image) → IsPlain (contents_of image 0) → IsFlushed g (contents_of image) may
+    → IsStanding g (opened g.blocks) (contents_of image) may (opening image) × IsLed g (opened g.blocks) (contents_of image) may (opening image)
 unfolding flush_request
 opened_stands g image may valid blocks plain flushed =
     let now = contents_of image in
     let settled : Candidates = λ b. now b ∷ [] in
     let waits : Memory = record (opened g.blocks) { requests = flush_request ∷ [] } in
     let first : IsStanding g waits now settled (opening image) = admit_stands g (opened g.blocks) now settled (opening image) flush_request tt refl tt (omega arith) (opening_stands g image valid blocks plain) in
-    (step_keeps g waits (Map flush_request.ticket) Succeeded now now settled may (opening image) first (refl, flushed)).1
+    let led : IsLed g waits now settled (opening image) = admit_is_led g (opened g.blocks) now settled (opening image) flush_request (opening_is_led g image valid plain) in (
+      (step_keeps g waits (Map flush_request.ticket) Succeeded now now settled may (opening image) first (refl, flushed)).1,
+      led_keeps g waits (Map flush_request.ticket) Succeeded now now settled may (opening image) first led (λ fails. absurd (cc fails)) (refl, flushed),
+    )
 
 -- ----------------------------------------------------------------------------------------------------------------
 -- A flush or a read keeps the image.
@@ -234,7 +239,7 @@ module _ {D : Type 0} (stated : D → Option Geometry) (content : D → Option C
     -- an opened device over a disk that tells its content
     module _ {T : Type 0} (x : T) (a b d : D) (c : Content) (is : content a ≡ Some c) (valid : IsValid g) (same : Goes Same (content a) (content b)) (count : moment b ≡ moment a) (made : LeftBy {T = T} stated content moment left faults_of g (Ok x) b d) where
       found : (o n p : Option Content) → o ≡ Some c → content d ≡ p → Goes Same o n → SettledBy n p (moment b) (moment d)
-          → IsPlain (slice_index_or c.now 0 []) × StandsOver g (opened g.blocks) p (opening c.now) × Counted 2 (moment b) (moment d)
+          → IsPlain (slice_index_or c.now 0 []) × StandsOver g (opened g.blocks) p (opening c.now) × LedOver g (opened g.blocks) p (opening c.now) × Counted 2 (moment b) (moment d)
       found None n p told at same settled = absurd (cc told)
       found (Some o) None p told at same settled = absurd same
       found (Some o) (Some e) None told at same settled = absurd settled
@@ -248,10 +253,14 @@ module _ {D : Type 0} (stated : D → Option Geometry) (content : D → Option C
           let flushed : IsFlushed g (contents_of f.now) (candidates_of f.candidates) = λ x within.
           ap (λ (l : List (List (List ℕ))). get_or l x []) ((settled.0).1) ∙ get_or-map (λ (y : List ℕ). y ∷ []) e.now x [] [] (omega (arith, within, ap (λ (l : List (List ℕ)). length l) (sym ((settled.0).0)), is_shaped.blocks))
           ∙ ap (λ (l : List (List ℕ)). get_or l x [] ∷ []) (sym ((settled.0).0)) in
-          let stands = opened_stands g f.now (candidates_of f.candidates) valid blocks (subst (λ (l : List (List ℕ)). IsPlain (get_or l 0 [])) (sym image) plain) flushed in
-          (plain, subst (λ (l : List (List ℕ)). IsStanding g (opened g.blocks) (contents_of f.now) (candidates_of f.candidates) (opening l)) image stands, settled.2)
+          let stands = opened_stands g f.now (candidates_of f.candidates) valid blocks (subst (λ (l : List (List ℕ)). IsPlain (get_or l 0 [])) (sym image) plain) flushed in (
+            plain,
+            subst (λ (l : List (List ℕ)). IsStanding g (opened g.blocks) (contents_of f.now) (candidates_of f.candidates) (opening l)) image stands.0,
+            subst (λ (l : List (List ℕ)). IsLed g (opened g.blocks) (contents_of f.now) (candidates_of f.candidates) (opening l)) image stands.1,
+            settled.2,
+          )
 
-      pub opened_so : IsPlain (slice_index_or c.now 0 []) × StandsOver g (opened g.blocks) (content d) (opening c.now) × Counted 2 (moment a) (moment d)
+      pub opened_so : IsPlain (slice_index_or c.now 0 []) × StandsOver g (opened g.blocks) (content d) (opening c.now) × LedOver g (opened g.blocks) (content d) (opening c.now) × Counted 2 (moment a) (moment d)
       opened_so =
           let both = found (content a) (content b) (content d) is refl same made.settled in
-          (both.0, both.1, subst (λ n. Counted 2 n (moment d)) count both.2)
+          (both.0, both.1, both.2, subst (λ n. Counted 2 n (moment d)) count both.3)

@@ -1,8 +1,8 @@
 -- The saved blocks stay known where blocks are given other kinds.
 use Rattle.std.proofs.Common.{ℕ, ◌+◌, ◌≡◌, ◌<◌, ◌≤◌, Bool, true, false, cond, List, length, refl, sym, ap, ◌∙◌, arith, inl, inr}
-use Rattle.std.specs.Prelude.{◌&&◌, ◌==◌, ◌-◌, not, map}
+use Rattle.std.specs.Prelude.{◌&&◌, ◌==◌, ◌-◌, not, map, replicate}
 use Rattle.std.proofs.lemmas.Bool.{eqb-true, false≢true}
-use Rattle.std.proofs.lemmas.List.{same_lists, get_or_default}
+use Rattle.std.proofs.lemmas.List.{same_lists, get_or_default, get_or-replicate, length-replicate}
 use Rattle.std.specs.List.{list_any}
 use Rattle.bow_units.specs.declared.sizes.Extent.{Extent}
 use Rattle.bow_units.specs.declared.requests.Phase.{Phase}
@@ -134,6 +134,12 @@ unsaved_is table new saved set is = set ∙ same_kinds (with_kind table saved Ch
       | inr out ↦ kind_out table saved Changed b is.inside out.0 ∙ sym (not_saved_is (kind_at table b) (is.each b within ∙ out.1)) ∙ sym (kind_unsaved table b)
     ]
 
+empty_extent : (none : Extent) → none.count ≡ 0 → (b : ℕ) → holds none b ≡ false
+empty_extent none count b = elim (holds_cases none b) [
+  | inl in_it ↦ absurd (omega (arith, in_it.0, in_it.1, count))
+  | inr out ↦ out.1
+]
+
 -- and nothing is saved any more
 pub saved_none : (table new : List Kind) (saved none : Extent) → new ≡ with_kind table saved Changed → SavedIs table saved → none.first ≡ 0 → none.count ≡ 0 → SavedIs new none
 saved_none table new saved none set is first count = rw set (record {
@@ -141,14 +147,18 @@ saved_none table new saved none set is first count = rw set (record {
   each = λ b within. go b (omega (arith, within, length_with table saved Changed is.inside));
 })
   where
-    empty : (b : ℕ) → holds none b ≡ false
-    empty b = elim (holds_cases none b) [
-      | inl in_it ↦ absurd (omega (arith, in_it.0, in_it.1, count))
-      | inr out ↦ out.1
-    ]
-
     go : (b : ℕ) → b < length table → is_saved (kind_at (with_kind table saved Changed) b) ≡ holds none b
     go b within = elim (holds_cases saved b) [
-      | inl in_it ↦ ap is_saved (kind_in table saved Changed b is.inside in_it.0 in_it.1) ∙ sym (empty b)
-      | inr out ↦ ap is_saved (kind_out table saved Changed b is.inside out.0) ∙ is.each b within ∙ out.1 ∙ sym (empty b)
+      | inl in_it ↦ ap is_saved (kind_in table saved Changed b is.inside in_it.0 in_it.1) ∙ sym (empty_extent none count b)
+      | inr out ↦ ap is_saved (kind_out table saved Changed b is.inside out.0) ∙ is.each b within ∙ out.1 ∙ sym (empty_extent none count b)
     ]
+
+-- nothing is saved in a new table
+pub fresh_saved : (n : ℕ) (table new : List Kind) (zeroth none : Extent) → table ≡ replicate n Unchanged → new ≡ with_kind table zeroth Sector0 → zeroth.first ≡ 0 → zeroth.count ≡ 1 → none.first ≡ 0 → none.count ≡ 0 → 8 ≤ n → SavedIs new none
+fresh_saved n table new zeroth none fresh set at_0 one first count enough =
+    let long : length table ≡ n = ap (λ l. length l) fresh ∙ length-replicate n Unchanged in
+    let all : (b : ℕ) → b < n → is_saved (kind_at table b) ≡ false = λ b on. ap (λ l. is_saved (kind_at l b)) fresh ∙ ap is_saved (get_or-replicate n b Unchanged Unchanged on) in
+    saved_to table new zeroth none Sector0 set (omega (arith, at_0, one, long, enough)) (λ b low high. all b (omega (arith, high, at_0, one, enough))) refl (record {
+      inside = omega (arith, first, count);
+      each = λ b within. all b (omega (arith, within, long)) ∙ sym (empty_extent none count b);
+    })

@@ -1,5 +1,5 @@
 -- The worker's turn, as the code has it.
-use Rattle.std.specs.Prelude.{◌≡◌, ℕ, ◌+◌, ◌<◌, ◌≤◌, true, if◌then◌else◌, List, [], length, Option, Some, None, Result, Ok, Err}
+use Rattle.std.specs.Prelude.{◌≡◌, ℕ, ◌+◌, ◌<◌, ◌≤◌, true, if◌then◌else◌, List, [], length, Some, Result, Ok, Err}
 use Rattle.bow_units.specs.declared.sizes.Geometry.{Geometry}
 use Rattle.bow_units.specs.declared.sizes.Extent.{Extent}
 use Rattle.bow_units.specs.declared.statuses.Kind.{Kind}
@@ -13,12 +13,12 @@ use Rattle.bow_copy.specs.declared.jobs.After.TheVariants as afters
 use Rattle.bow_copy.specs.declared.jobs.Job.TheVariants as jobs
 use Rattle.bow_ranges.specs.Kinds.{kind_at}
 use Rattle.bow_machine.specs.Requests.{Request}
-use Rattle.bow_machine.specs.Memory.{Memory, Batch, Hand, Empty, Batching, Preparing, Committing}
+use Rattle.bow_machine.specs.Memory.{Memory, Batch, Hand, Empty, Batching}
 use Rattle.bow_machine.specs.Calls.{Succeeded}
 use Rattle.bow_machine.specs.MemoryIsSound.{MemoryIsSound}
 use Rattle.bow_machine.specs.Tasks.{Task, Acts, Answers, head}
 use Rattle.bow_machine.specs.Steps.{extent_of, went_on, cleaned, given_up}
-use Rattle.bow_core.specs.Requests.{the_request}
+use Rattle.bow_queue.specs.Requests.{the_request}
 use Rattle.bow_core.specs.declared.tasks.Head.{Head}
 
 -- the batch in hand; where there is none, one that is over

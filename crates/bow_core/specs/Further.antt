@@ -5,13 +5,15 @@ use Rattle.bow_units.specs.declared.sizes.Geometry.{Geometry}
 use Rattle.bow_units.specs.declared.requests.Phase.TheVariants.{Checkpoint}
 use Rattle.bow_disk.specs.Disk.{Content}
 use Rattle.bow_log.specs.Generations.{Generation}
-use Rattle.bow_chain.specs.Contents.{contents_of}
+use Rattle.bow_chain.specs.Contents.{contents_of, with_block}
+use Rattle.bow_chain.specs.Kept.{Keeps}
 use Rattle.bow_chain.specs.Sound.{StandsBehind}
 use Rattle.bow_flat.specs.Flat.{Flat}
 use Rattle.bow_guard.specs.Cuts.{candidates_of}
 use Rattle.bow_machine.specs.Ahead.{IsLed}
 use Rattle.bow_machine.specs.Calls.{Reply}
 use Rattle.bow_machine.specs.Memory.{Memory}
+use Rattle.bow_machine.specs.Tasks.{spelling}
 use Rattle.bow_core.specs.declared.turns.Turn.{Turn}
 use Rattle.bow_core.specs.declared.turns.Step.{Step as OwnStep}
 use Rattle.bow_core.specs.Standing.{state_after, step_seen}
@@ -35,6 +37,19 @@ BehindOver g (Some c) log older = StandsBehind g (contents_of c.now) log older
 -- the same on the device's disk
 abbrev pub BehindIn : {D : Type 0} → (D → Option Content) → View D → Generation → List Generation → Type 0
 BehindIn content v log older = BehindOver v.geometry (content v.disk) log older
+
+-- what a disk that tells its content holds keeps the checkpoint of the state, once this log is put into block 0
+abbrev pub KeepsOver : Geometry → Option Content → Generation → Flat → Type 0
+KeepsOver g None log f = ⊥
+KeepsOver g (Some c) log f = Keeps g f.used f.saved (with_block (contents_of c.now) 0 (spelling g log))
+
+-- What a reader beside running writers may lean on in Checkpoint: with the log in memory in block 0 the device's disk
+-- keeps the checkpoint, and there are older logs behind that log, which it follows.
+pub record IsReadable {D : Type 0} (content : D → Option Content) (v : View D) (log : Generation)
+    (f : Flat) : Type 0 where
+  pub keeps : KeepsOver v.geometry (content v.disk) log f
+  pub older : List Generation
+  pub behind : BehindIn content v log older
 
 -- A turn's step, by a reply, over a device that stood for the state. Where the disk's count of faults did not rise, a
 -- device that was led for it is led for the state after. In Checkpoint the older logs stay, and the log before may

@@ -29,17 +29,14 @@ pub record SavedIs (table : List Kind) (saved : Extent) : Type 0 where
   pub inside : saved.first + saved.count ≤ length table
   pub each : (b : ℕ) → b < length table → is_saved (kind_at table b) ≡ holds saved b
 
--- The sizes are a device's, and the table has them; the buffer has eight blocks, and the other one has one; the log
--- is one for the device; there is room for as many requests as there are places, at most 16; and the saved blocks are
--- known.
-pub record IsKept (g : Geometry) (table : List Kind) (waiting places capacity : ℕ) (buffer block : List ℕ) (kept :
-    Option Fields) (extent : Extent) : Type 0 where
+-- The sizes are a device's, and the table and the queue have its blocks; the buffer has eight blocks, and the other one
+-- has one; the log is one for the device; and the saved blocks are known.
+pub record IsKept (g : Geometry) (table : List Kind) (queued : ℕ) (buffer block : List ℕ) (kept : Option Fields)
+    (extent : Extent) : Type 0 where
   pub valid : IsValid g
   pub whole : length table ≡ g.blocks
+  pub blocks : queued ≡ g.blocks
   pub eight : length buffer ≡ 8 * g.block_size
   pub one : length block ≡ g.block_size
   pub log : LogFits g kept
-  pub few : places ≤ 16
-  pub fit : waiting ≤ places
-  pub room : places ≤ capacity
   pub saved : SavedIs table extent

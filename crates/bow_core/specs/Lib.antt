@@ -1,5 +1,4 @@
 pub mod Calls
-pub mod Requests
 pub mod Ports
 pub mod Held
 pub mod Inside
@@ -13,3 +12,5 @@ pub mod Orders
 pub mod Standing
 pub mod Openings
 pub mod Further
+pub mod Room
+pub mod Ties

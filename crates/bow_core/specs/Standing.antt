@@ -1,8 +1,6 @@
 -- What a step does to the flat state for which a device stands.
 use Rattle.std.specs.Prelude.{◌≡◌, ◌⊎◌, ℕ, ◌≤◌, List, Option, Some, None}
-use Rattle.bow_units.specs.Causes.{Rose}
 use Rattle.bow_units.specs.declared.sizes.Geometry.{Geometry}
-use Rattle.bow_units.specs.declared.requests.Phase.{Phase}
 use Rattle.bow_disk.specs.Disk.{Content}
 use Rattle.bow_chain.specs.Contents.{Contents, contents_of}
 use Rattle.bow_flat.specs.Flat.{Flat}

@@ -1,9 +1,10 @@
 -- One step of the device: one step of the machine.
-use Rattle.std.specs.Prelude.{◌≡◌, ℕ, List, [], Option}
+use Rattle.std.specs.Prelude.{◌≡◌, ℕ, List, [], Option, Some}
 use Rattle.bow_units.specs.declared.sizes.Geometry.{Geometry}
 use Rattle.bow_disk.specs.Disk.{Content}
 use Rattle.bow_chain.specs.Contents.{Contents}
 use Rattle.bow_machine.specs.Memory.{Memory}
+use Rattle.bow_machine.specs.MemoryIsSound.{MemoryIsSound}
 use Rattle.bow_machine.specs.Calls.{Call, Reply}
 use Rattle.bow_machine.specs.Tasks.{Task, task_of}
 use Rattle.bow_machine.specs.Steps.{Step, call_of, step_of}
@@ -12,6 +13,8 @@ use Rattle.bow_core.specs.declared.turns.Step.{Step as OwnStep}
 use Rattle.bow_core.specs.Turns.{turn_of, told_of}
 use Rattle.bow_core.specs.Ports.{Makes}
 use Rattle.bow_core.specs.Views.{View}
+use Rattle.bow_core.specs.Held.{Held, with_memory}
+use Rattle.bow_core.specs.declared.ports.Port.{Port}
 
 -- what stands for the contents of the disk where nothing depends on them: memory, and what is told, never do
 abbrev pub unknown : Contents
@@ -31,6 +34,19 @@ pub record IsDone {D : Type 0} (stated : D → Option Geometry) (content : D →
   pub made : Makes stated content moment left faults g (call_of g m task) reply old new before now
   pub memory : after ≡ (done_by g m task reply).memory
   pub told : told_of tells ≡ (done_by g m task reply).told
+
+-- the disk states the sizes that the device keeps, and its memory is sound
+pub record IsInOrder {D : Type 0} (stated : D → Option Geometry) (port : Port D) (s : Held) : Type 0 where
+  pub sizes : stated port.disk ≡ Some s.geometry
+  pub sound : MemoryIsSound s.geometry s.memory
+
+-- The same of what the device keeps, over its counted disk: of it memory alone changed.
+pub record Does {D : Type 0} (stated : D → Option Geometry) (content : D → Option Content) (moment : D → ℕ)
+    (left : D → ℕ → List (List ℕ) → Type 0) (faults : D → ℕ) (old : Port D) (s : Held) (task : Task) (tells : OwnStep)
+    (new : Port D) (now : Held) : Type 0 where
+  pub done : IsDone stated content moment left faults s.geometry s.memory task tells now.memory old.disk new.disk
+      old.calls new.calls
+  pub kept : now ≡ with_memory s now.memory
 
 -- what a turn of a device does
 abbrev pub task_in : {D : Type 0} → View D → Turn → Task

@@ -18,13 +18,13 @@ pub record View (D : Type 0) : Type 0 where
   pub calls : ℕ
 
 -- the same, of what the device keeps
-abbrev pub view_of : {D : Type 0} → D → Held → ℕ → ℕ → View D
-view_of disk s admitted calls = record {
+abbrev pub view_of : {D : Type 0} → D → Held → ℕ → View D
+view_of disk s calls = record {
   disk = disk;
   geometry = s.geometry;
   places = s.places;
   memory = s.memory;
-  admitted = admitted;
+  admitted = s.admitted;
   calls = calls;
 }
 

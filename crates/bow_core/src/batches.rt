@@ -1,47 +1,41 @@
 // The steps of a batch, from its first act to its end.
-ghost use Rattle.std.specs.Prelude.{◌≡◌, ◌≢◌, ◌+◌, ◌*◌, ◌<◌, ◌≤◌, ◌^◌, ◌∷◌, ◌++◌, [], ℕ, length, Some, None, IsSome, true, false};
-ghost use Rattle.bow_copy.specs.Acts.{acts_before_log, after_act, log_tried, next_act};
+ghost use Rattle.std.specs.Prelude.{◌≡◌, ◌≢◌, ◌+◌, []};
+ghost use Rattle.std.specs.Prelude.{Some, None, true, false};
+ghost use Rattle.bow_copy.specs.Acts.{after_act, log_tried, next_act};
 ghost use Rattle.bow_copy.specs.declared.jobs.Act.{Act};
 ghost use Rattle.bow_copy.specs.declared.jobs.Act.TheVariants as acts;
 ghost use Rattle.bow_copy.specs.declared.jobs.Job.TheVariants as jobs;
-ghost use Rattle.bow_log.specs.Rules.{IsLog};
-ghost use Rattle.bow_log.specs.Spelling.{Fields, spell};
 ghost use Rattle.bow_machine.specs.Memory.{Empty, picks};
 ghost use Rattle.bow_ranges.specs.Kinds.{with_kind};
 ghost use Rattle.bow_units.specs.declared.statuses.Kind.TheVariants.{Free};
 ghost use Rattle.bow_machine.specs.Memory.{Batching as HeldBatch};
-ghost use Rattle.bow_machine.specs.MemoryIsSound.{MemoryIsSound, Rising};
+ghost use Rattle.bow_machine.specs.MemoryIsSound.{MemoryIsSound};
 ghost use Rattle.bow_machine.specs.Requests.{request_of};
 ghost use Rattle.bow_machine.specs.Steps.{answered_for, changed, cleaned, fault_after};
-ghost use Rattle.bow_machine.specs.Tasks.{Acts, Answers, Worker, task_of};
+ghost use Rattle.bow_machine.specs.Tasks.{Acts, Worker, task_of};
 ghost use Rattle.bow_core.specs.Batches.{ArePicked, batch_in_hand, gone_on, let_go};
 ghost use Rattle.bow_core.specs.Held.{slots_in, with_memory};
-ghost use Rattle.bow_core.specs.Steps.{IsDone};
+ghost use Rattle.bow_core.specs.Steps.{Does, IsInOrder};
 ghost use Rattle.bow_core.specs.Turns.{told_of};
 
 use crate::Ticket;
-use crate::commands::{entry_of_slots, give_log};
+use crate::commands::give_log;
 use crate::hands::Hand;
 use crate::ports::Port;
-use crate::requests::find_request;
-use crate::slots::{read_slot, write_slot};
+use crate::slots::{entry_of_slots, read_slot, write_slot};
 use crate::state::{State, run};
 use crate::turns::Step;
 use crate::workers::serve;
 use bow_copy::{Act, After, Job, done, next};
 use bow_disk::Disk;
-use bow_log::{Entry, Log};
 use bow_ranges::Ranges;
 use bow_units::{Extent, Failed, Kind, Outcome};
 
 /// The step of the worker's turn.
 pub(crate) fn step_worker<D: Disk, R: Ranges>(port: &mut Port<D>, state: &mut State<R>) -> Step
-    requires sizes { D.stated port.old.disk ≡ Some state.old.geometry }
-    requires sound { MemoryIsSound state.old.geometry state.old.memory }
-    ensures done { IsDone D.stated D.content D.moment D.left_since D.faults state.old.geometry state.old.memory
-        (task_of state.old.geometry state.old.memory Worker) result state.new.memory port.old.disk port.new.disk
-        port.old.calls port.new.calls }
-    ensures kept { state.new ≡ with_memory state.old state.new.memory }
+    requires order { IsInOrder D.stated port.old state.old }
+    ensures { Does D.stated D.content D.moment D.left_since D.faults port.old state.old
+        (task_of state.old.geometry state.old.memory Worker) result port.new state.new }
 {
     match &state.hand {
         Hand::Batching(_, ticket) => {
@@ -59,13 +53,11 @@ pub(crate) fn act_of_batch<D: Disk, R: Ranges>(
     state: &mut State<R>,
     ticket: Ticket,
 ) -> Step
-    requires sizes { D.stated port.old.disk ≡ Some state.old.geometry }
-    requires sound { MemoryIsSound state.old.geometry state.old.memory }
+    requires order { IsInOrder D.stated port.old state.old }
     requires held { state.old.memory.hand ≡ HeldBatch (batch_in_hand state.old.memory.hand) }
     requires own { (batch_in_hand state.old.memory.hand).ticket ≡ ticket }
-    ensures done { IsDone D.stated D.content D.moment D.left_since D.faults state.old.geometry state.old.memory
-        (Acts state.old.memory) result state.new.memory port.old.disk port.new.disk port.old.calls port.new.calls }
-    ensures kept { state.new ≡ with_memory state.old state.new.memory }
+    ensures { Does D.stated D.content D.moment D.left_since D.faults port.old state.old
+        (Acts state.old.memory) result port.new state.new }
 {
     match state.next_act() {
         Act::Read { block, slot } => read_source(port, state, ticket, block, slot),
@@ -84,14 +76,12 @@ fn read_source<D: Disk, R: Ranges>(
     block: u64,
     slot: u32,
 ) -> Step
-    requires sizes { D.stated port.old.disk ≡ Some state.old.geometry }
-    requires sound { MemoryIsSound state.old.geometry state.old.memory }
+    requires order { IsInOrder D.stated port.old state.old }
     requires held { state.old.memory.hand ≡ HeldBatch (batch_in_hand state.old.memory.hand) }
     requires own { (batch_in_hand state.old.memory.hand).ticket ≡ ticket }
     requires act { next_act (batch_in_hand state.old.memory.hand).progress ≡ acts.Read block slot }
-    ensures done { IsDone D.stated D.content D.moment D.left_since D.faults state.old.geometry state.old.memory
-        (Acts state.old.memory) result state.new.memory port.old.disk port.new.disk port.old.calls port.new.calls }
-    ensures kept { state.new ≡ with_memory state.old state.new.memory }
+    ensures { Does D.stated D.content D.moment D.left_since D.faults port.old state.old
+        (Acts state.old.memory) result port.new state.new }
 {
     let size = state.size();
     match read_slot(port, &mut state.buffer, size, block, slot) {
@@ -114,14 +104,12 @@ fn write_dest<D: Disk, R: Ranges>(
     block: u64,
     slot: u32,
 ) -> Step
-    requires sizes { D.stated port.old.disk ≡ Some state.old.geometry }
-    requires sound { MemoryIsSound state.old.geometry state.old.memory }
+    requires order { IsInOrder D.stated port.old state.old }
     requires held { state.old.memory.hand ≡ HeldBatch (batch_in_hand state.old.memory.hand) }
     requires own { (batch_in_hand state.old.memory.hand).ticket ≡ ticket }
     requires act { next_act (batch_in_hand state.old.memory.hand).progress ≡ acts.Write block slot }
-    ensures done { IsDone D.stated D.content D.moment D.left_since D.faults state.old.geometry state.old.memory
-        (Acts state.old.memory) result state.new.memory port.old.disk port.new.disk port.old.calls port.new.calls }
-    ensures kept { state.new ≡ with_memory state.old state.new.memory }
+    ensures { Does D.stated D.content D.moment D.left_since D.faults port.old state.old
+        (Acts state.old.memory) result port.new state.new }
 {
     let size = state.size();
     match write_slot(port, &state.buffer, size, block, slot) {
@@ -136,14 +124,12 @@ fn write_changed_log<D: Disk, R: Ranges>(
     state: &mut State<R>,
     ticket: Ticket,
 ) -> Step
-    requires sizes { D.stated port.old.disk ≡ Some state.old.geometry }
-    requires sound { MemoryIsSound state.old.geometry state.old.memory }
+    requires order { IsInOrder D.stated port.old state.old }
     requires held { state.old.memory.hand ≡ HeldBatch (batch_in_hand state.old.memory.hand) }
     requires own { (batch_in_hand state.old.memory.hand).ticket ≡ ticket }
     requires act { next_act (batch_in_hand state.old.memory.hand).progress ≡ acts.WriteLog }
-    ensures done { IsDone D.stated D.content D.moment D.left_since D.faults state.old.geometry state.old.memory
-        (Acts state.old.memory) result state.new.memory port.old.disk port.new.disk port.old.calls port.new.calls }
-    ensures kept { state.new ≡ with_memory state.old state.new.memory }
+    ensures { Does D.stated D.content D.moment D.left_since D.faults port.old state.old
+        (Acts state.old.memory) result port.new state.new }
 {
     state.change();
     match give_log(port, state) {
@@ -154,14 +140,12 @@ fn write_changed_log<D: Disk, R: Ranges>(
 
 /// Flushes what the batch wrote.
 fn flush_batch<D: Disk, R: Ranges>(port: &mut Port<D>, state: &mut State<R>, ticket: Ticket) -> Step
-    requires sizes { D.stated port.old.disk ≡ Some state.old.geometry }
-    requires sound { MemoryIsSound state.old.geometry state.old.memory }
+    requires order { IsInOrder D.stated port.old state.old }
     requires held { state.old.memory.hand ≡ HeldBatch (batch_in_hand state.old.memory.hand) }
     requires own { (batch_in_hand state.old.memory.hand).ticket ≡ ticket }
     requires act { next_act (batch_in_hand state.old.memory.hand).progress ≡ acts.Flush }
-    ensures done { IsDone D.stated D.content D.moment D.left_since D.faults state.old.geometry state.old.memory
-        (Acts state.old.memory) result state.new.memory port.old.disk port.new.disk port.old.calls port.new.calls }
-    ensures kept { state.new ≡ with_memory state.old state.new.memory }
+    ensures { Does D.stated D.content D.moment D.left_since D.faults port.old state.old
+        (Acts state.old.memory) result port.new state.new }
 {
     match port.flush() {
         Ok(()) => state.act_done(),
@@ -226,7 +210,6 @@ impl<R: Ranges> State<R> {
     /// An act of the batch in hand failed: nothing is in hand any more, the picked blocks are free again unless writing
     /// the log was tried, and the write for which the batch was formed is answered with a fault.
     fn fail(&mut self, ticket: Ticket) -> Step
-        requires own { Rising self.old.memory.requests }
         requires held { self.old.memory.hand ≡ HeldBatch (batch_in_hand self.old.memory.hand) }
         requires act { next_act (batch_in_hand self.old.memory.hand).progress ≢ acts.End }
         requires picked { (let p = (batch_in_hand self.old.memory.hand).progress in log_tried p.job (p.done + 1) ≡ false
@@ -237,7 +220,7 @@ impl<R: Ranges> State<R> {
             self.old.memory.hand)) (request_of ticket self.old.memory.requests) fault_after (λ r. [])).memory }
     {
         self.let_go();
-        let done = match find_request(&self.requests, ticket) {
+        let done = match self.queue.request(ticket) {
             Some(request) => request.done,
             None => 0,
         };
@@ -316,7 +299,7 @@ impl<R: Ranges> State<R> {
         let Some(log) = &mut self.log else {
             unreachable!()
         };
-        begin_next(log, entry);
+        log.begin_next(self.geometry, entry);
         self.clean = false;
     }
 
@@ -332,7 +315,7 @@ impl<R: Ranges> State<R> {
         let Some(log) = &mut self.log else {
             unreachable!()
         };
-        add(log, entry);
+        log.add(self.geometry, entry);
         self.clean = false;
         self.saved = run(source, count as u64);
         self.table.set(self.saved, Kind::Saved);
@@ -346,39 +329,13 @@ impl<R: Ranges> State<R> {
         requires job { (batch_in_hand self.old.memory.hand).progress.job ≡ jobs.Move from to }
         ensures { self.new ≡ with_memory self.old (changed self.old.memory (batch_in_hand self.old.memory.hand)) }
     {
-        let sectors = self.geometry.block_size as u64 / 512;
         let Some(log) = &mut self.log else {
             unreachable!()
         };
-        set_sector0(log, to * sectors);
+        log.set_current(self.geometry, to);
         self.clean = false;
         self.table.set(run(to, 1), Kind::Current);
         self.saved = run(from, 1);
         self.table.set(self.saved, Kind::Saved);
     }
-}
-
-/// Adds an entry to a log with room for it.
-fn add(log: &mut Log, entry: Entry)
-    requires { length log.old.entries < 169 }
-    ensures { log.new ≡ record log.old { entries = log.old.entries ++ entry ∷ [] } }
-{
-    log.entries.push(entry);
-}
-
-/// The log after this one, with one entry.
-fn begin_next(log: &mut Log, entry: Entry)
-    requires { log.old.sequence + 1 < 2 ^ 32 }
-    ensures { log.new ≡ record log.old { sequence = log.old.sequence + 1; entries = entry ∷ [] } }
-{
-    log.sequence += 1;
-    log.entries.clear();
-    log.entries.push(entry);
-}
-
-/// The current block 0 lies at this sector.
-fn set_sector0(log: &mut Log, sector: u64)
-    ensures { log.new ≡ record log.old { sector0 = sector } }
-{
-    log.sector0 = sector;
 }

@@ -1,43 +1,39 @@
 // The steps of prepare and commit.
-ghost use Rattle.std.specs.Prelude.{◌≡◌, ◌+◌, ◌-◌, ◌*◌, ◌<◌, ◌≤◌, length, Some, None, IsSome, false, []};
+ghost use Rattle.std.specs.Prelude.{◌≡◌, ◌-◌, ◌<◌, length, Some, None, IsSome, false, []};
 ghost use Rattle.bow_ranges.specs.Kinds.{kind_at, with_kind};
 ghost use Rattle.bow_units.specs.declared.requests.Phase.TheVariants.{Committed, Trim};
 ghost use Rattle.bow_units.specs.declared.requests.Op.TheVariants.{Prepare};
 ghost use Rattle.bow_log.specs.Rules.{IsLog};
 ghost use Rattle.bow_log.specs.Spelling.{spell};
 ghost use Rattle.bow_core.specs.Orders.{task_of_order};
-ghost use Rattle.bow_core.specs.Requests.{the_request};
+ghost use Rattle.bow_queue.specs.Requests.{the_request};
 ghost use Rattle.bow_units.specs.declared.statuses.Kind.TheVariants.{Unchanged};
 ghost use Rattle.bow_machine.specs.Memory.{Memory, Empty, FlushesAll, ReadsCurrent, WritesBlock0, FlushesDecision};
 ghost use Rattle.bow_machine.specs.Memory.{ReadsBlock0, WritesCurrent, WritesBackup, FlushesCopies};
 ghost use Rattle.bow_machine.specs.Memory.{WritesFirstLog, FlushesFirstLog};
 ghost use Rattle.bow_machine.specs.Memory.{Committing as HeldCommit, Preparing as HeldPrepare};
-ghost use Rattle.bow_machine.specs.MemoryIsSound.{MemoryIsSound, Rising};
+ghost use Rattle.bow_machine.specs.MemoryIsSound.{MemoryIsSound};
 ghost use Rattle.bow_machine.specs.Requests.{Request, request_of};
 ghost use Rattle.bow_machine.specs.MemoryIsSound.{IsTable};
-ghost use Rattle.bow_machine.specs.Steps.{answered_for, armed, copy_entry, log_of_memory};
+ghost use Rattle.bow_machine.specs.Steps.{answered_for, armed, log_of_memory};
 ghost use Rattle.bow_machine.specs.Calls.{WriteCall};
-ghost use Rattle.bow_units.specs.Sizes.{IsValid};
-ghost use Rattle.bow_log.specs.Generations.{entry_of};
-ghost use Rattle.bow_crc.specs.Sums.{first_blocks};
 ghost use Rattle.bow_core.specs.Calls.{reply_of};
 ghost use Rattle.bow_core.specs.Ports.{Makes};
 ghost use Rattle.bow_machine.specs.Tasks.{Acts, Command, spelling, taken, task_of};
 ghost use Rattle.bow_core.specs.Commands.{two_picked, block_in_hand};
 ghost use Rattle.bow_core.specs.Held.{with_memory, commit_of, prepare_of};
 ghost use Rattle.bow_core.specs.Inside.{is_saved};
-ghost use Rattle.bow_core.specs.Steps.{IsDone};
+ghost use Rattle.bow_core.specs.Steps.{Does, IsInOrder};
 ghost use Rattle.bow_core.specs.Turns.{told_of};
 
 use crate::Ticket;
 use crate::hands::{CommitAct, Committing, Hand, PrepareAct, Preparing};
 use crate::ports::Port;
-use crate::requests::find_command;
-use crate::slots::{read_slot, sum_of_slots, write_slot};
+use crate::slots::{entry_of_slots, read_slot, write_slot};
 use crate::state::{State, run};
 use crate::turns::Step;
 use bow_disk::Disk;
-use bow_log::{Entry, Log, write_log};
+use bow_log::{Log, write_log};
 use bow_ranges::Ranges;
 use bow_units::{Failed, Geometry, Kind, Op, Outcome, Phase};
 
@@ -71,12 +67,9 @@ fn order_of(op: &Op, phase: Phase) -> Order
 
 /// The step of the commands' turn.
 pub(crate) fn step_command<D: Disk, R: Ranges>(port: &mut Port<D>, state: &mut State<R>) -> Step
-    requires sizes { D.stated port.old.disk ≡ Some state.old.geometry }
-    requires sound { MemoryIsSound state.old.geometry state.old.memory }
-    ensures done { IsDone D.stated D.content D.moment D.left_since D.faults state.old.geometry state.old.memory
-        (task_of state.old.geometry state.old.memory Command) result state.new.memory port.old.disk port.new.disk
-        port.old.calls port.new.calls }
-    ensures kept { state.new ≡ with_memory state.old state.new.memory }
+    requires order { IsInOrder D.stated port.old state.old }
+    ensures { Does D.stated D.content D.moment D.left_since D.faults port.old state.old
+        (task_of state.old.geometry state.old.memory Command) result port.new state.new }
 {
     match &state.hand {
         Hand::Empty => take_command(port, state),
@@ -94,15 +87,12 @@ pub(crate) fn step_command<D: Disk, R: Ranges>(port: &mut Port<D>, state: &mut S
 
 /// Takes the first command in hand, if one waits, and makes its first act.
 fn take_command<D: Disk, R: Ranges>(port: &mut Port<D>, state: &mut State<R>) -> Step
-    requires sizes { D.stated port.old.disk ≡ Some state.old.geometry }
-    requires sound { MemoryIsSound state.old.geometry state.old.memory }
+    requires order { IsInOrder D.stated port.old state.old }
     requires empty { state.old.memory.hand ≡ Empty }
-    ensures done { IsDone D.stated D.content D.moment D.left_since D.faults state.old.geometry state.old.memory
-        (task_of state.old.geometry state.old.memory Command) result state.new.memory port.old.disk port.new.disk
-        port.old.calls port.new.calls }
-    ensures kept { state.new ≡ with_memory state.old state.new.memory }
+    ensures { Does D.stated D.content D.moment D.left_since D.faults port.old state.old
+        (task_of state.old.geometry state.old.memory Command) result port.new state.new }
 {
-    let Some(request) = find_command(&state.requests) else {
+    let Some(request) = state.queue.first_command() else {
         return Step::Idle;
     };
     let ticket = request.ticket;
@@ -121,15 +111,12 @@ fn take_prepare<D: Disk, R: Ranges>(
     state: &mut State<R>,
     ticket: Ticket,
 ) -> Step
-    requires sizes { D.stated port.old.disk ≡ Some state.old.geometry }
-    requires sound { MemoryIsSound state.old.geometry state.old.memory }
+    requires order { IsInOrder D.stated port.old state.old }
     requires waits { IsSome (request_of ticket state.old.memory.requests) }
     requires task { task_of state.old.geometry state.old.memory Command ≡ taken state.old.memory (the_request ticket
         state.old.memory.requests) Prepare Trim }
-    ensures done { IsDone D.stated D.content D.moment D.left_since D.faults state.old.geometry state.old.memory
-        (task_of state.old.geometry state.old.memory Command) result state.new.memory port.old.disk port.new.disk
-        port.old.calls port.new.calls }
-    ensures kept { state.new ≡ with_memory state.old state.new.memory }
+    ensures { Does D.stated D.content D.moment D.left_since D.faults port.old state.old
+        (task_of state.old.geometry state.old.memory Command) result port.new state.new }
 {
     match state.pick_two() {
         Some((current, backup)) => begin_prepare(port, state, ticket, current, backup),
@@ -145,15 +132,12 @@ fn begin_prepare<D: Disk, R: Ranges>(
     current: u64,
     backup: u64,
 ) -> Step
-    requires sizes { D.stated port.old.disk ≡ Some state.old.geometry }
-    requires sound { MemoryIsSound state.old.geometry state.old.memory }
+    requires order { IsInOrder D.stated port.old state.old }
     requires task { task_of state.old.geometry state.old.memory Command ≡ Acts (record state.old.memory {
       hand = HeldPrepare ticket current backup ReadsBlock0;
     }) }
-    ensures done { IsDone D.stated D.content D.moment D.left_since D.faults state.old.geometry state.old.memory
-        (task_of state.old.geometry state.old.memory Command) result state.new.memory port.old.disk port.new.disk
-        port.old.calls port.new.calls }
-    ensures kept { state.new ≡ with_memory state.old state.new.memory }
+    ensures { Does D.stated D.content D.moment D.left_since D.faults port.old state.old
+        (task_of state.old.geometry state.old.memory Command) result port.new state.new }
 {
     let prepare = Preparing {
         ticket,
@@ -171,15 +155,12 @@ fn repeat_prepare<D: Disk, R: Ranges>(
     state: &mut State<R>,
     ticket: Ticket,
 ) -> Step
-    requires sizes { D.stated port.old.disk ≡ Some state.old.geometry }
-    requires sound { MemoryIsSound state.old.geometry state.old.memory }
+    requires order { IsInOrder D.stated port.old state.old }
     requires task { task_of state.old.geometry state.old.memory Command ≡ Acts (record state.old.memory {
       hand = HeldPrepare ticket 0 0 WritesFirstLog;
     }) }
-    ensures done { IsDone D.stated D.content D.moment D.left_since D.faults state.old.geometry state.old.memory
-        (task_of state.old.geometry state.old.memory Command) result state.new.memory port.old.disk port.new.disk
-        port.old.calls port.new.calls }
-    ensures kept { state.new ≡ with_memory state.old state.new.memory }
+    ensures { Does D.stated D.content D.moment D.left_since D.faults port.old state.old
+        (task_of state.old.geometry state.old.memory Command) result port.new state.new }
 {
     let prepare = Preparing {
         ticket,
@@ -198,15 +179,12 @@ fn begin_commit<D: Disk, R: Ranges>(
     ticket: Ticket,
     again: bool,
 ) -> Step
-    requires sizes { D.stated port.old.disk ≡ Some state.old.geometry }
-    requires sound { MemoryIsSound state.old.geometry state.old.memory }
+    requires order { IsInOrder D.stated port.old state.old }
     requires task { task_of state.old.geometry state.old.memory Command ≡ Acts (record state.old.memory {
       hand = HeldCommit ticket again FlushesAll;
     }) }
-    ensures done { IsDone D.stated D.content D.moment D.left_since D.faults state.old.geometry state.old.memory
-        (task_of state.old.geometry state.old.memory Command) result state.new.memory port.old.disk port.new.disk
-        port.old.calls port.new.calls }
-    ensures kept { state.new ≡ with_memory state.old state.new.memory }
+    ensures { Does D.stated D.content D.moment D.left_since D.faults port.old state.old
+        (task_of state.old.geometry state.old.memory Command) result port.new state.new }
 {
     let commit = Committing {
         ticket,
@@ -223,12 +201,10 @@ fn read_block0<D: Disk, R: Ranges>(
     state: &mut State<R>,
     prepare: Preparing,
 ) -> Step
-    requires sizes { D.stated port.old.disk ≡ Some state.old.geometry }
-    requires sound { MemoryIsSound state.old.geometry state.old.memory }
+    requires order { IsInOrder D.stated port.old state.old }
     requires held { state.old.memory.hand ≡ HeldPrepare prepare.ticket prepare.current prepare.backup ReadsBlock0 }
-    ensures done { IsDone D.stated D.content D.moment D.left_since D.faults state.old.geometry state.old.memory
-        (Acts state.old.memory) result state.new.memory port.old.disk port.new.disk port.old.calls port.new.calls }
-    ensures kept { state.new ≡ with_memory state.old state.new.memory }
+    ensures { Does D.stated D.content D.moment D.left_since D.faults port.old state.old
+        (Acts state.old.memory) result port.new state.new }
 {
     let size = state.size();
     state.hand = Hand::Empty;
@@ -250,14 +226,12 @@ fn write_current<D: Disk, R: Ranges>(
     state: &mut State<R>,
     prepare: Preparing,
 ) -> Step
-    requires sizes { D.stated port.old.disk ≡ Some state.old.geometry }
-    requires sound { MemoryIsSound state.old.geometry state.old.memory }
+    requires order { IsInOrder D.stated port.old state.old }
     requires held { state.old.memory.hand ≡ HeldPrepare prepare.ticket prepare.current prepare.backup (WritesCurrent
         (block_in_hand
         state.old.memory.hand)) }
-    ensures done { IsDone D.stated D.content D.moment D.left_since D.faults state.old.geometry state.old.memory
-        (Acts state.old.memory) result state.new.memory port.old.disk port.new.disk port.old.calls port.new.calls }
-    ensures kept { state.new ≡ with_memory state.old state.new.memory }
+    ensures { Does D.stated D.content D.moment D.left_since D.faults port.old state.old
+        (Acts state.old.memory) result port.new state.new }
 {
     let size = state.size();
     match write_slot(port, &state.buffer, size, prepare.current, 0) {
@@ -278,14 +252,12 @@ fn write_backup<D: Disk, R: Ranges>(
     state: &mut State<R>,
     prepare: Preparing,
 ) -> Step
-    requires sizes { D.stated port.old.disk ≡ Some state.old.geometry }
-    requires sound { MemoryIsSound state.old.geometry state.old.memory }
+    requires order { IsInOrder D.stated port.old state.old }
     requires held { state.old.memory.hand ≡ HeldPrepare prepare.ticket prepare.current prepare.backup (WritesBackup
         (block_in_hand
         state.old.memory.hand)) }
-    ensures done { IsDone D.stated D.content D.moment D.left_since D.faults state.old.geometry state.old.memory
-        (Acts state.old.memory) result state.new.memory port.old.disk port.new.disk port.old.calls port.new.calls }
-    ensures kept { state.new ≡ with_memory state.old state.new.memory }
+    ensures { Does D.stated D.content D.moment D.left_since D.faults port.old state.old
+        (Acts state.old.memory) result port.new state.new }
 {
     let size = state.size();
     match write_slot(port, &state.buffer, size, prepare.backup, 0) {
@@ -306,14 +278,12 @@ fn flush_copies<D: Disk, R: Ranges>(
     state: &mut State<R>,
     prepare: Preparing,
 ) -> Step
-    requires sizes { D.stated port.old.disk ≡ Some state.old.geometry }
-    requires sound { MemoryIsSound state.old.geometry state.old.memory }
+    requires order { IsInOrder D.stated port.old state.old }
     requires held { state.old.memory.hand ≡ HeldPrepare prepare.ticket prepare.current prepare.backup (FlushesCopies
         (block_in_hand
         state.old.memory.hand)) }
-    ensures done { IsDone D.stated D.content D.moment D.left_since D.faults state.old.geometry state.old.memory
-        (Acts state.old.memory) result state.new.memory port.old.disk port.new.disk port.old.calls port.new.calls }
-    ensures kept { state.new ≡ with_memory state.old state.new.memory }
+    ensures { Does D.stated D.content D.moment D.left_since D.faults port.old state.old
+        (Acts state.old.memory) result port.new state.new }
 {
     match port.flush() {
         Ok(()) => {
@@ -330,12 +300,10 @@ fn write_first_log<D: Disk, R: Ranges>(
     state: &mut State<R>,
     prepare: Preparing,
 ) -> Step
-    requires sizes { D.stated port.old.disk ≡ Some state.old.geometry }
-    requires sound { MemoryIsSound state.old.geometry state.old.memory }
+    requires order { IsInOrder D.stated port.old state.old }
     requires held { state.old.memory.hand ≡ HeldPrepare prepare.ticket prepare.current prepare.backup WritesFirstLog }
-    ensures done { IsDone D.stated D.content D.moment D.left_since D.faults state.old.geometry state.old.memory
-        (Acts state.old.memory) result state.new.memory port.old.disk port.new.disk port.old.calls port.new.calls }
-    ensures kept { state.new ≡ with_memory state.old state.new.memory }
+    ensures { Does D.stated D.content D.moment D.left_since D.faults port.old state.old
+        (Acts state.old.memory) result port.new state.new }
 {
     match give_log(port, state) {
         Ok(()) => {
@@ -355,12 +323,10 @@ fn flush_first_log<D: Disk, R: Ranges>(
     state: &mut State<R>,
     prepare: Preparing,
 ) -> Step
-    requires sizes { D.stated port.old.disk ≡ Some state.old.geometry }
-    requires sound { MemoryIsSound state.old.geometry state.old.memory }
+    requires order { IsInOrder D.stated port.old state.old }
     requires held { state.old.memory.hand ≡ HeldPrepare prepare.ticket prepare.current prepare.backup FlushesFirstLog }
-    ensures done { IsDone D.stated D.content D.moment D.left_since D.faults state.old.geometry state.old.memory
-        (Acts state.old.memory) result state.new.memory port.old.disk port.new.disk port.old.calls port.new.calls }
-    ensures kept { state.new ≡ with_memory state.old state.new.memory }
+    ensures { Does D.stated D.content D.moment D.left_since D.faults port.old state.old
+        (Acts state.old.memory) result port.new state.new }
 {
     match port.flush() {
         Ok(()) => {
@@ -378,14 +344,12 @@ fn act_of_prepare<D: Disk, R: Ranges>(
     state: &mut State<R>,
     prepare: Preparing,
 ) -> Step
-    requires sizes { D.stated port.old.disk ≡ Some state.old.geometry }
-    requires sound { MemoryIsSound state.old.geometry state.old.memory }
+    requires order { IsInOrder D.stated port.old state.old }
     requires held { state.old.memory.hand ≡ HeldPrepare prepare.ticket prepare.current prepare.backup (prepare_of
         (block_in_hand
         state.old.memory.hand) prepare.act) }
-    ensures done { IsDone D.stated D.content D.moment D.left_since D.faults state.old.geometry state.old.memory
-        (Acts state.old.memory) result state.new.memory port.old.disk port.new.disk port.old.calls port.new.calls }
-    ensures kept { state.new ≡ with_memory state.old state.new.memory }
+    ensures { Does D.stated D.content D.moment D.left_since D.faults port.old state.old
+        (Acts state.old.memory) result port.new state.new }
 {
     match prepare.act {
         PrepareAct::ReadBlock0 => read_block0(port, state, prepare),
@@ -426,44 +390,16 @@ fn spell_into(log: &Log, geometry: Geometry, block: &mut Vec<u8>)
     write_log(log, geometry, block);
 }
 
-/// The entry of a backup whose content lies in the first blocks of a buffer.
-pub(crate) fn entry_of_slots(
-    geometry: Geometry,
-    buffer: &Vec<u8>,
-    source: u64,
-    dest: u64,
-    count: u32,
-) -> Entry
-    requires valid { IsValid geometry }
-    requires some { 1 ≤ count }
-    requires few { count ≤ 8 }
-    requires room { count * geometry.block_size ≤ length buffer.now.items }
-    requires from { source + count ≤ geometry.blocks }
-    requires to { dest + count ≤ geometry.blocks }
-    ensures { result ≡ entry_of geometry (copy_entry source dest count (first_blocks count geometry.block_size
-        buffer.now.items)) }
-{
-    let sectors = geometry.block_size as u64 / 512;
-    Entry {
-        source: source * sectors,
-        dest: dest * sectors,
-        size: count * geometry.block_size,
-        sum: sum_of_slots(buffer, geometry.block_size, source, count),
-    }
-}
-
 /// The first act of a commit: all is flushed.
 fn flush_all<D: Disk, R: Ranges>(
     port: &mut Port<D>,
     state: &mut State<R>,
     commit: Committing,
 ) -> Step
-    requires sizes { D.stated port.old.disk ≡ Some state.old.geometry }
-    requires sound { MemoryIsSound state.old.geometry state.old.memory }
+    requires order { IsInOrder D.stated port.old state.old }
     requires held { state.old.memory.hand ≡ HeldCommit commit.ticket commit.again FlushesAll }
-    ensures done { IsDone D.stated D.content D.moment D.left_since D.faults state.old.geometry state.old.memory
-        (Acts state.old.memory) result state.new.memory port.old.disk port.new.disk port.old.calls port.new.calls }
-    ensures kept { state.new ≡ with_memory state.old state.new.memory }
+    ensures { Does D.stated D.content D.moment D.left_since D.faults port.old state.old
+        (Acts state.old.memory) result port.new state.new }
 {
     match port.flush() {
         Ok(()) => {
@@ -483,12 +419,10 @@ fn read_current<D: Disk, R: Ranges>(
     state: &mut State<R>,
     commit: Committing,
 ) -> Step
-    requires sizes { D.stated port.old.disk ≡ Some state.old.geometry }
-    requires sound { MemoryIsSound state.old.geometry state.old.memory }
+    requires order { IsInOrder D.stated port.old state.old }
     requires held { state.old.memory.hand ≡ HeldCommit commit.ticket commit.again ReadsCurrent }
-    ensures done { IsDone D.stated D.content D.moment D.left_since D.faults state.old.geometry state.old.memory
-        (Acts state.old.memory) result state.new.memory port.old.disk port.new.disk port.old.calls port.new.calls }
-    ensures kept { state.new ≡ with_memory state.old state.new.memory }
+    ensures { Does D.stated D.content D.moment D.left_since D.faults port.old state.old
+        (Acts state.old.memory) result port.new state.new }
 {
     let size = state.size();
     let place = state.place_of_0();
@@ -511,13 +445,11 @@ fn write_block0<D: Disk, R: Ranges>(
     state: &mut State<R>,
     commit: Committing,
 ) -> Step
-    requires sizes { D.stated port.old.disk ≡ Some state.old.geometry }
-    requires sound { MemoryIsSound state.old.geometry state.old.memory }
+    requires order { IsInOrder D.stated port.old state.old }
     requires held { state.old.memory.hand ≡ HeldCommit commit.ticket commit.again (WritesBlock0 (block_in_hand
         state.old.memory.hand)) }
-    ensures done { IsDone D.stated D.content D.moment D.left_since D.faults state.old.geometry state.old.memory
-        (Acts state.old.memory) result state.new.memory port.old.disk port.new.disk port.old.calls port.new.calls }
-    ensures kept { state.new ≡ with_memory state.old state.new.memory }
+    ensures { Does D.stated D.content D.moment D.left_since D.faults port.old state.old
+        (Acts state.old.memory) result port.new state.new }
 {
     let size = state.size();
     let made = write_slot(port, &state.buffer, size, 0, 0);
@@ -540,12 +472,10 @@ fn flush_decision<D: Disk, R: Ranges>(
     state: &mut State<R>,
     commit: Committing,
 ) -> Step
-    requires sizes { D.stated port.old.disk ≡ Some state.old.geometry }
-    requires sound { MemoryIsSound state.old.geometry state.old.memory }
+    requires order { IsInOrder D.stated port.old state.old }
     requires held { state.old.memory.hand ≡ HeldCommit commit.ticket commit.again FlushesDecision }
-    ensures done { IsDone D.stated D.content D.moment D.left_since D.faults state.old.geometry state.old.memory
-        (Acts state.old.memory) result state.new.memory port.old.disk port.new.disk port.old.calls port.new.calls }
-    ensures kept { state.new ≡ with_memory state.old state.new.memory }
+    ensures { Does D.stated D.content D.moment D.left_since D.faults port.old state.old
+        (Acts state.old.memory) result port.new state.new }
 {
     match port.flush() {
         Ok(()) => {
@@ -562,13 +492,11 @@ fn act_of_commit<D: Disk, R: Ranges>(
     state: &mut State<R>,
     commit: Committing,
 ) -> Step
-    requires sizes { D.stated port.old.disk ≡ Some state.old.geometry }
-    requires sound { MemoryIsSound state.old.geometry state.old.memory }
+    requires order { IsInOrder D.stated port.old state.old }
     requires held { state.old.memory.hand ≡ HeldCommit commit.ticket commit.again (commit_of (block_in_hand
         state.old.memory.hand) commit.act) }
-    ensures done { IsDone D.stated D.content D.moment D.left_since D.faults state.old.geometry state.old.memory
-        (Acts state.old.memory) result state.new.memory port.old.disk port.new.disk port.old.calls port.new.calls }
-    ensures kept { state.new ≡ with_memory state.old state.new.memory }
+    ensures { Does D.stated D.content D.moment D.left_since D.faults port.old state.old
+        (Acts state.old.memory) result port.new state.new }
 {
     match commit.act {
         CommitAct::FlushAll => flush_all(port, state, commit),
@@ -623,7 +551,6 @@ impl<R: Ranges> State<R> {
 
     /// Nothing is in hand any more, and the request of this ticket is answered, if it waits.
     fn end(&mut self, ticket: Ticket, outcome: Outcome) -> Step
-        requires own { Rising self.old.memory.requests }
         ensures told { told_of result ≡ (answered_for (record self.old.memory { hand = Empty }) (request_of ticket
             self.old.memory.requests) (λ r. outcome) (λ r. [])).told }
         ensures memory { self.new ≡ with_memory self.old (answered_for (record self.old.memory { hand = Empty })

@@ -1,35 +1,36 @@
 // The device.
-ghost use Rattle.std.specs.Prelude.{◌≡◌, ◌+◌, ◌-◌, ◌<◌, ◌≤◌, ◌↔◌, ◌^◌, ◌++◌, ◌∷◌, [], length, IfOk, IfErr, OnOk, Some};
-ghost use Rattle.std.specs.Prelude.{true, false};
-ghost use Rattle.bow_units.specs.Sizes.{IsValid};
-ghost use Rattle.bow_machine.specs.Laws.{opened};
-ghost use Rattle.bow_machine.specs.MemoryIsSound.{IsAdmissible};
-ghost use Rattle.bow_machine.specs.Tasks.{task_of};
-ghost use Rattle.bow_machine.specs.Ready.{is_ready};
-ghost use Rattle.bow_flat.specs.Flat.{Flat};
-ghost use Rattle.bow_machine.specs.Steps.{Idle};
-ghost use Rattle.bow_machine.specs.MemoryLaws.{tells_fault};
-ghost use Rattle.bow_machine.specs.MemoryIsSound.{MemoryIsSound};
-ghost use Rattle.bow_units.specs.Causes.{Rose};
-ghost use Rattle.std.specs.Prelude.{option_copied};
+ghost use Rattle.std.specs.Prelude.{◌≡◌, ◌+◌, ◌-◌, ◌<◌, ◌≤◌, ◌↔◌, ◌^◌, ◌++◌, ◌∷◌, [], length, IfOk, IfErr};
+ghost use Rattle.std.specs.Prelude.{OnErr, OnOk, IsSome, List, Some, true, false, option_copied, MatchResult};
+ghost use Rattle.std.specs.Prelude.{slice_index_or};
 ghost use Rattle.std.specs.Option.{option_map};
-ghost use Rattle.bow_log.specs.Generations.{fields_of};
-ghost use Rattle.bow_machine.specs.Calls.{ReadCall};
-ghost use Rattle.bow_machine.specs.Shown.{status_of, IsShown};
-ghost use Rattle.bow_core.specs.Calls.{read_reply};
-ghost use Rattle.bow_core.specs.Ports.{Makes};
-ghost use Rattle.bow_core.specs.Further.{KeepsOn};
-ghost use Rattle.bow_core.specs.Held.{with_memory};
+ghost use Rattle.bow_core.specs.Calls.{read_reply, Counted};
+ghost use Rattle.bow_core.specs.Further.{BehindIn, IsReadable, KeepsOn, LedIn};
 ghost use Rattle.bow_core.specs.Openings.{KeepsImage, LeftBy, OpenCause};
-ghost use Rattle.std.specs.Prelude.{MatchResult, slice_index_or};
-ghost use Rattle.bow_disk.specs.Disk.{Content};
-ghost use Rattle.bow_flat.specs.Flat.{opening};
-ghost use Rattle.bow_units.specs.Magics.{IsPlain};
-ghost use Rattle.bow_core.specs.Calls.{Counted};
+ghost use Rattle.bow_core.specs.Ports.{Makes};
+ghost use Rattle.bow_core.specs.Room.{FindsNoSpace, IsExactRoom};
 ghost use Rattle.bow_core.specs.Standing.{StandsIn, Leads};
-ghost use Rattle.bow_core.specs.Steps.{IsDone, IsStep};
+ghost use Rattle.bow_core.specs.Steps.{Does, IsInOrder, IsStep};
+ghost use Rattle.bow_core.specs.Ties.{IsTied};
 ghost use Rattle.bow_core.specs.Turns.{turn_of, told_of};
 ghost use Rattle.bow_core.specs.Views.{IsOpened};
+ghost use Rattle.bow_disk.specs.Disk.{Content};
+ghost use Rattle.bow_flat.specs.Flat.{Flat, opening};
+ghost use Rattle.bow_flat.specs.Valid.{HasCheckpoint};
+ghost use Rattle.bow_log.specs.Generations.{fields_of, Generation};
+ghost use Rattle.bow_machine.specs.Calls.{ReadCall};
+ghost use Rattle.bow_machine.specs.Laws.{opened};
+ghost use Rattle.bow_machine.specs.MemoryIsSound.{IsAdmissible};
+ghost use Rattle.bow_machine.specs.MemoryLaws.{tells_fault};
+ghost use Rattle.bow_machine.specs.Ready.{is_ready};
+ghost use Rattle.bow_machine.specs.Requests.{Request};
+ghost use Rattle.bow_machine.specs.Shown.{status_of, IsShown};
+ghost use Rattle.bow_machine.specs.Steps.{Answered, Idle};
+ghost use Rattle.bow_machine.specs.Tasks.{task_of};
+ghost use Rattle.bow_units.specs.Causes.{Rose};
+ghost use Rattle.bow_units.specs.Magics.{IsPlain};
+ghost use Rattle.bow_units.specs.Sizes.{IsValid};
+ghost use Rattle.bow_units.specs.declared.requests.Outcome.TheVariants.{NoSpace};
+ghost use Rattle.bow_units.specs.declared.requests.Phase.TheVariants.{Checkpoint};
 
 use crate::Ticket;
 use crate::batches::step_worker;
@@ -66,7 +67,6 @@ pub enum OpenFault {
 pub struct Core<D: Disk, R: Ranges> {
     port: Port<D>,
     state: State<R>,
-    admitted: u64,
 }
 
 impl<D: Disk, R: Ranges> Model for Core<D, R> {
@@ -74,9 +74,9 @@ impl<D: Disk, R: Ranges> Model for Core<D, R> {
 
     ghost Value = { View D };
 
-    ghost view = { λ c. view_of c.port.disk c.state c.admitted c.port.calls };
+    ghost view = { λ c. view_of c.port.disk c.state c.port.calls };
 
-    ghost invariant = { λ c. IsOpened D.stated (view_of c.port.disk c.state c.admitted c.port.calls) };
+    ghost invariant = { λ c. IsOpened D.stated (view_of c.port.disk c.state c.port.calls) };
 }
 
 /// Before anything waits the disk is flushed, and block 0 begins with no magic.
@@ -102,12 +102,9 @@ fn settle<D: Disk, R: Ranges>(port: &mut Port<D>, state: &mut State<R>) -> Resul
 
 /// The step of a turn.
 fn step_turn<D: Disk, R: Ranges>(port: &mut Port<D>, state: &mut State<R>, turn: Turn) -> Step
-    requires sizes { D.stated port.old.disk ≡ Some state.old.geometry }
-    requires sound { MemoryIsSound state.old.geometry state.old.memory }
-    ensures done { IsDone D.stated D.content D.moment D.left_since D.faults state.old.geometry state.old.memory
-        (task_of state.old.geometry state.old.memory (turn_of turn)) result state.new.memory port.old.disk
-        port.new.disk port.old.calls port.new.calls }
-    ensures kept { state.new ≡ with_memory state.old state.new.memory }
+    requires order { IsInOrder D.stated port.old state.old }
+    ensures { Does D.stated D.content D.moment D.left_since D.faults port.old state.old
+        (task_of state.old.geometry state.old.memory (turn_of turn)) result port.new state.new }
 {
     match turn {
         Turn::Map(ticket) => map_step(port, state, ticket),
@@ -116,7 +113,7 @@ fn step_turn<D: Disk, R: Ranges>(port: &mut Port<D>, state: &mut State<R>, turn:
     }
 }
 
-impl<D: Disk, R: Ranges + Drop> Core<D, R> {
+impl<D: Disk, R: Ranges> Core<D, R> {
     /// Opens a device of 1 to 16 places on a disk: asks the sizes, takes all memory, flushes, and reads block 0. The
     /// device is then in phase `Trim`, no request waits, and it stands for the opening state of the disk's image, of
     /// which block 0 begins with no magic. The image is unchanged, and what a cut leaves meanwhile it might have left
@@ -125,6 +122,7 @@ impl<D: Disk, R: Ranges + Drop> Core<D, R> {
     /// `DiskFault` only where its count of faults rose in this call, and then its sizes are valid or nothing was
     /// read, written or flushed.
     pub fn open(alloc: Global, mut disk: D, places: u32) -> Result<Core<D, R>, (OpenFault, D)>
+        requires some { 1 ≤ places }
         requires few { places ≤ 16 }
         ensures valid { IfOk result (λ core. IsValid core.geometry) }
         ensures opened { IfOk result (λ core. IsOpened D.stated core) }
@@ -134,6 +132,8 @@ impl<D: Disk, R: Ranges + Drop> Core<D, R> {
             core.disk) (λ e. KeepsImage D.stated D.content D.moment D.left_since D.faults disk e.1) }
         ensures stands { (c : Content) → D.content disk ≡ Some c → IfOk result (λ core. IsPlain (slice_index_or c.now 0
             []) × StandsIn D.content core (opening c.now)) }
+        ensures led { (c : Content) → D.content disk ≡ Some c → IfOk result (λ core. LedIn D.content core (opening
+            c.now)) }
         ensures clock { (c : Content) → D.content disk ≡ Some c → MatchResult result (λ core. Counted 2 (D.moment disk)
             (D.moment core.disk)) (λ e. D.moment e.1 ≤ D.moment disk + 2) }
         ensures cause { IfErr result (λ e. OpenCause D.stated D.content D.moment D.faults disk e.1 e.0) }
@@ -149,11 +149,7 @@ impl<D: Disk, R: Ranges + Drop> Core<D, R> {
         };
         let mut port = Port { disk, calls: 0 };
         match settle(&mut port, &mut state) {
-            Ok(()) => Ok(Core {
-                port,
-                state,
-                admitted: 0,
-            }),
+            Ok(()) => Ok(Core { port, state }),
             Err(fault) => {
                 let Port { disk, .. } = port;
                 Err((fault, disk))
@@ -180,7 +176,7 @@ impl<D: Disk, R: Ranges + Drop> Core<D, R> {
     pub fn admitted(&self) -> u64
         ensures { result ≡ self.now.admitted }
     {
-        self.admitted
+        self.state.admitted()
     }
 
     /// How many reads, writes and flushes it has made on its disk since its opening began, or the last value of `u64`
@@ -192,30 +188,46 @@ impl<D: Disk, R: Ranges + Drop> Core<D, R> {
     }
 
     /// The phase, how many blocks are free, and the sequence number and the entries of the log in memory, which are 0
-    /// in `Trim` and `Committed`; in `Committed` none is free.
+    /// in `Trim` and `Committed`; in `Committed` none is free. From `Arming` to `Deciding` the room is exact: how many
+    /// blocks are free follows from how many were when the checkpoint was prepared, which is what each flat state for
+    /// which the device stands says.
     pub fn status(&self) -> Status
         ensures is { result ≡ status_of self.now.memory }
         ensures shown { IsShown self.now.geometry result }
+        ensures room { HasCheckpoint result.phase → IsExactRoom self.now.memory result }
+        ensures trimmed { (f : Flat) → StandsIn D.content self.now f → HasCheckpoint result.phase → f.trimmed ≡
+            self.now.memory.trimmed }
     {
         self.state.status()
     }
 
-    /// The log in memory. There is none exactly in `Trim` and `Committed`.
+    /// The log in memory. There is none exactly in `Trim` and `Committed`. In `Checkpoint` the checkpoint can be read
+    /// beside running writers by it, for each flat state for which the device stands.
     pub fn log(&self) -> Option<&Log>
-        ensures { option_copied result ≡ option_map (fields_of self.now.geometry) self.now.memory.log }
+        ensures is { option_copied result ≡ option_map (fields_of self.now.geometry) self.now.memory.log }
+        ensures there { IsSome result ↔ HasCheckpoint self.now.memory.phase }
+        ensures readable { (f : Flat) (log : Generation) → StandsIn D.content self.now f → self.now.memory.phase ≡
+            Checkpoint → self.now.memory.log ≡ Some log → IsReadable D.content self.now log f }
     {
         self.state.log()
     }
 
-    /// One read of block `at`, beside the device, into a buffer of one block: all else stays. `Failed` comes only where
-    /// the disk's count of faults rose in this call.
+    /// One read of block `at`, beside the device, into a buffer of one block: all else stays, and so does all for which
+    /// the device stands. The image is unchanged, and what a cut leaves meanwhile it might have left before. `Failed`
+    /// comes only where the disk's count of faults rose in this call.
     pub fn raw(&mut self, at: u64, into: &mut [u8]) -> Result<(), Failed>
         requires on { at < self.old.geometry.blocks }
         requires one { length into.old ≡ self.old.geometry.block_size }
         ensures made { Makes D.stated D.content D.moment D.left_since D.faults self.old.geometry (Some (ReadCall at))
             (read_reply result into.new) self.old.disk self.new.disk self.old.calls self.new.calls }
         ensures kept { self.new ≡ record self.old { disk = self.new.disk; calls = self.new.calls } }
+        ensures image { KeepsImage D.stated D.content D.moment D.left_since D.faults self.old.disk self.new.disk }
+        ensures cause { OnErr result (Rose (D.faults self.old.disk) (D.faults self.new.disk)) }
         ensures opened { IsOpened D.stated self.new }
+        ensures stands { (f : Flat) → StandsIn D.content self.old f → StandsIn D.content self.new f }
+        ensures led { (f : Flat) → LedIn D.content self.old f → LedIn D.content self.new f }
+        ensures older { (log : Generation) (older : List Generation) → BehindIn D.content self.old log older → BehindIn
+            D.content self.new log older }
     {
         self.port.read(at, into)
     }
@@ -228,7 +240,8 @@ impl<D: Disk, R: Ranges + Drop> Core<D, R> {
     }
 
     /// Takes a request in: a read or a write has 1 to 16 blocks and a buffer of that many. It waits under the ticket
-    /// until a step answers it. There is a spare place, and fewer than 2^64 - 1 requests were admitted before.
+    /// until a step answers it. There is a spare place, and fewer than 2^64 - 1 requests were admitted before. All for
+    /// which the device stands stays.
     pub fn admit(&mut self, op: Op) -> Ticket
         requires place { length self.old.memory.requests < self.old.places }
         requires number { self.old.admitted < 2 ^ 64 - 1 }
@@ -243,14 +256,10 @@ impl<D: Disk, R: Ranges + Drop> Core<D, R> {
               self.old.admitted + 1;
         } }
         ensures opened { IsOpened D.stated self.new }
+        ensures stands { (f : Flat) → StandsIn D.content self.old f → StandsIn D.content self.new f }
+        ensures led { (f : Flat) → LedIn D.content self.old f → LedIn D.content self.new f }
     {
-        let ticket = Ticket {
-            key: 0,
-            serial: self.admitted,
-        };
-        self.admitted += 1;
-        self.state.admit(ticket, op);
-        ticket
+        self.state.admit(op)
     }
 
     /// Whether a turn makes a step: by the table of readiness.
@@ -262,15 +271,19 @@ impl<D: Disk, R: Ranges + Drop> Core<D, R> {
 
     /// One step, with at most one call on the disk: one step of the machine. It is `Idle` exactly where the table of
     /// readiness says that the turn is not ready, and then nothing changes. A request is answered `DiskFault` only
-    /// where the disk's count of faults rose in this step. The step leads from each flat state for which the device
-    /// stood to one for which it stands, by events that may be, and what a cut leaves meanwhile was left before or
-    /// stands for it.
+    /// where the disk's count of faults rose in this step, and `NoSpace` exactly where the turn finds none: where no
+    /// block is free for the worker's head, or no two for a prepare. The step leads from each flat state for which the
+    /// device stood to one for which it stands, by events that may be, and what a cut leaves meanwhile was left before
+    /// or stands for it.
     pub fn step(&mut self, turn: Turn) -> Step
         ensures step { IsStep D.stated D.content D.moment D.left_since D.faults self.old turn result self.new }
         ensures idle { (told_of result ≡ Idle) ↔ (is_ready self.old.geometry self.old.memory (turn_of turn) ≡ false) }
         ensures still { told_of result ≡ Idle → self.new ≡ self.old }
         ensures cause { tells_fault (told_of result) ≡ true → Rose (D.faults self.old.disk) (D.faults self.new.disk) }
         ensures faults { D.faults self.old.disk ≤ D.faults self.new.disk }
+        ensures space { (r : Request) → (told_of result ≡ Answered r.ticket r.op (NoSpace r.done)) ↔ FindsNoSpace
+            self.old.geometry self.old.memory turn r }
+        ensures tied { IsTied self.old.geometry self.old.memory self.new.memory }
         ensures calls { (self.old.calls ≤ self.new.calls) × (self.new.calls ≤ self.old.calls + 1) }
         ensures opened { IsOpened D.stated self.new }
         ensures leads { (f : Flat) → StandsIn D.content self.old f → Leads D.content D.moment D.left_since self.old

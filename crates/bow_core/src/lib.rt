@@ -18,6 +18,3 @@ mod workers;
 pub use bow_queue::Ticket;
 pub use device::{Core, OpenFault};
 pub use turns::{Step, Turn};
-
-#[cfg(test)]
-mod tests;

@@ -1,11 +1,7 @@
 // A step of a request.
-ghost use Rattle.std.specs.Prelude.{◌≡◌, ◌+◌, ◌*◌, ◌<◌, ◌≤◌, length, take, drop, Some, IsSome, false, ℕ, []};
-ghost use Rattle.std.specs.Option.{option_map};
-ghost use Rattle.bow_units.specs.declared.sizes.Geometry.{Geometry};
-ghost use Rattle.bow_flat.specs.Flat.{block_at};
+ghost use Rattle.std.specs.Prelude.{◌≡◌, ◌+◌, ◌*◌, ◌<◌, ◌≤◌, length, Some, IsSome, false, ℕ, []};
 ghost use Rattle.bow_machine.specs.Calls.{WriteCall};
 ghost use Rattle.bow_machine.specs.Memory.{place_of};
-ghost use Rattle.bow_machine.specs.MemoryIsSound.{MemoryIsSound, Rising};
 ghost use Rattle.bow_machine.specs.Requests.{request_of, with_request};
 ghost use Rattle.bow_machine.specs.Steps.{above_0, answered_for, kinds_discarded, next_block, payload_of};
 ghost use Rattle.bow_machine.specs.Steps.{extent_of as extent_in};
@@ -13,8 +9,8 @@ ghost use Rattle.bow_machine.specs.Tasks.{Map, task_of, WritesBlock, ReadsBlock,
 ghost use Rattle.bow_core.specs.Calls.{reply_of};
 ghost use Rattle.bow_core.specs.Held.{with_memory};
 ghost use Rattle.bow_core.specs.Ports.{Makes};
-ghost use Rattle.bow_core.specs.Requests.{the_request, one_done};
-ghost use Rattle.bow_core.specs.Steps.{IsDone};
+ghost use Rattle.bow_queue.specs.Requests.{the_request, one_done};
+ghost use Rattle.bow_core.specs.Steps.{Does, IsInOrder};
 ghost use Rattle.bow_core.specs.Turns.{told_of};
 ghost use Rattle.bow_core.specs.Tasks.{IsWriteOf};
 ghost use Rattle.bow_core.specs.Inside.{is_saved};
@@ -22,12 +18,13 @@ ghost use Rattle.bow_ranges.specs.Kinds.{kind_at};
 
 use crate::Ticket;
 use crate::ports::Port;
-use crate::requests::{advance, extent_of, fill, find_request, open_writes, take_request};
+use crate::requests::extent_of;
 use crate::slots::read_block;
 use crate::state::{State, run};
 use crate::tasks::Task;
 use crate::turns::Step;
 use bow_disk::Disk;
+use bow_queue::Request;
 use bow_ranges::Ranges;
 use bow_units::{Extent, Failed, Kind, Op, Outcome, Phase};
 
@@ -37,14 +34,11 @@ pub(crate) fn map_step<D: Disk, R: Ranges>(
     state: &mut State<R>,
     ticket: Ticket,
 ) -> Step
-    requires sizes { D.stated port.old.disk ≡ Some state.old.geometry }
-    requires sound { MemoryIsSound state.old.geometry state.old.memory }
-    ensures done { IsDone D.stated D.content D.moment D.left_since D.faults state.old.geometry state.old.memory
-        (task_of state.old.geometry state.old.memory (Map ticket)) result state.new.memory port.old.disk
-        port.new.disk port.old.calls port.new.calls }
-    ensures kept { state.new ≡ with_memory state.old state.new.memory }
+    requires order { IsInOrder D.stated port.old state.old }
+    ensures { Does D.stated D.content D.moment D.left_since D.faults port.old state.old
+        (task_of state.old.geometry state.old.memory (Map ticket)) result port.new state.new }
 {
-    let Some(request) = find_request(&state.requests, ticket) else {
+    let Some(request) = state.queue.request(ticket) else {
         return Step::Idle;
     };
     let task = state.task(request);
@@ -71,15 +65,12 @@ fn write_next<D: Disk, R: Ranges>(
     block: u64,
     done: u32,
 ) -> Step
-    requires sizes { D.stated port.old.disk ≡ Some state.old.geometry }
-    requires sound { MemoryIsSound state.old.geometry state.old.memory }
+    requires order { IsInOrder D.stated port.old state.old }
     requires number { (the_request ticket state.old.memory.requests).done ≡ done }
     requires task { task_of state.old.geometry state.old.memory (Map ticket) ≡ WritesBlock (the_request ticket
         state.old.memory.requests) block }
-    ensures done { IsDone D.stated D.content D.moment D.left_since D.faults state.old.geometry state.old.memory
-        (task_of state.old.geometry state.old.memory (Map ticket)) result state.new.memory port.old.disk
-        port.new.disk port.old.calls port.new.calls }
-    ensures kept { state.new ≡ with_memory state.old state.new.memory }
+    ensures { Does D.stated D.content D.moment D.left_since D.faults port.old state.old
+        (task_of state.old.geometry state.old.memory (Map ticket)) result port.new state.new }
 {
     let place = state.place_of(block);
     let wrote = write_payload(port, state, ticket, place);
@@ -116,7 +107,7 @@ fn write_payload<D: Disk, R: Ranges>(
         port.old.disk port.new.disk port.old.calls port.new.calls }
 {
     let size = state.size();
-    let Some(request) = find_request(&state.requests, ticket) else {
+    let Some(request) = state.queue.request(ticket) else {
         unreachable!()
     };
     let Op::Write(_, payload) = &request.op else {
@@ -135,20 +126,17 @@ fn read_next<D: Disk, R: Ranges>(
     block: u64,
     done: u32,
 ) -> Step
-    requires sizes { D.stated port.old.disk ≡ Some state.old.geometry }
-    requires sound { MemoryIsSound state.old.geometry state.old.memory }
+    requires order { IsInOrder D.stated port.old state.old }
     requires number { (the_request ticket state.old.memory.requests).done ≡ done }
     requires task { task_of state.old.geometry state.old.memory (Map ticket) ≡ ReadsBlock (the_request ticket
         state.old.memory.requests) block }
-    ensures done { IsDone D.stated D.content D.moment D.left_since D.faults state.old.geometry state.old.memory
-        (task_of state.old.geometry state.old.memory (Map ticket)) result state.new.memory port.old.disk
-        port.new.disk port.old.calls port.new.calls }
-    ensures kept { state.new ≡ with_memory state.old state.new.memory }
+    ensures { Does D.stated D.content D.moment D.left_since D.faults port.old state.old
+        (task_of state.old.geometry state.old.memory (Map ticket)) result port.new state.new }
 {
     let place = state.place_of(block);
     match read_block(port, &mut state.block, place) {
         Ok(()) => {
-            fill(&mut state.requests, ticket, &state.block);
+            state.queue.fill(ticket, &state.block);
             Step::Got {
                 ticket,
                 index: done,
@@ -160,14 +148,11 @@ fn read_next<D: Disk, R: Ranges>(
 
 /// One flush of the disk.
 fn flush_for<D: Disk, R: Ranges>(port: &mut Port<D>, state: &mut State<R>, ticket: Ticket) -> Step
-    requires sizes { D.stated port.old.disk ≡ Some state.old.geometry }
-    requires sound { MemoryIsSound state.old.geometry state.old.memory }
+    requires order { IsInOrder D.stated port.old state.old }
     requires task { task_of state.old.geometry state.old.memory (Map ticket) ≡ FlushesFor (the_request ticket
         state.old.memory.requests) }
-    ensures done { IsDone D.stated D.content D.moment D.left_since D.faults state.old.geometry state.old.memory
-        (task_of state.old.geometry state.old.memory (Map ticket)) result state.new.memory port.old.disk
-        port.new.disk port.old.calls port.new.calls }
-    ensures kept { state.new ≡ with_memory state.old state.new.memory }
+    ensures { Does D.stated D.content D.moment D.left_since D.faults port.old state.old
+        (task_of state.old.geometry state.old.memory (Map ticket)) result port.new state.new }
 {
     match port.flush() {
         Ok(()) => state.answer(ticket, Outcome::Done),
@@ -189,7 +174,6 @@ fn above_0(extent: Extent) -> Extent
 impl<R: Ranges> State<R> {
     /// One block more of the request is done.
     fn go_on(&mut self, ticket: Ticket)
-        requires own { Rising self.old.memory.requests }
         requires waits { IsSome (request_of ticket self.old.memory.requests) }
         requires few { (the_request ticket self.old.memory.requests).done < 16 }
         ensures { self.new ≡ with_memory self.old (record self.old.memory {
@@ -197,23 +181,22 @@ impl<R: Ranges> State<R> {
               (the_request ticket self.old.memory.requests)) self.old.memory.requests;
         }) }
     {
-        advance(&mut self.requests, ticket);
+        self.queue.advance(ticket);
     }
 
     /// Answers the request of this ticket, if it waits.
     pub(crate) fn answer(&mut self, ticket: Ticket, outcome: Outcome) -> Step
-        requires own { Rising self.old.memory.requests }
         ensures told { told_of result ≡ (answered_for self.old.memory (request_of ticket self.old.memory.requests)
             (λ r. outcome) (λ r. [])).told }
         ensures memory { self.new ≡ with_memory self.old (answered_for self.old.memory (request_of ticket
             self.old.memory.requests) (λ r. outcome) (λ r. [])).memory }
     {
-        let Some(request) = take_request(&mut self.requests, ticket) else {
+        let Some(Request { op, .. }) = self.queue.remove(ticket) else {
             return Step::Moved;
         };
         Step::Answered {
             ticket,
-            op: request.op,
+            op,
             outcome,
         }
     }
@@ -232,7 +215,7 @@ impl<R: Ranges> State<R> {
         match self.phase {
             Phase::Trim => self.table.set(above_0(extent), Kind::Free),
             Phase::Checkpoint => {
-                let open = open_writes(&self.requests, self.geometry.blocks);
+                let open = self.queue.open_writes();
                 self.table.reclaim(extent, &open);
             }
             _ => (),

@@ -4,6 +4,9 @@ ghost use Rattle.bow_units.specs.declared.sizes.Geometry.{Geometry as Sizes};
 ghost use Rattle.bow_disk.specs.Disk.{HasBlock};
 ghost use Rattle.bow_machine.specs.Calls.{ReadCall, WriteCall};
 ghost use Rattle.bow_log.specs.Rules.{IsLog};
+ghost use Rattle.bow_log.specs.Generations.{IsBackup, IsEntry, backup_of, entry_of};
+ghost use Rattle.bow_machine.specs.Steps.{copy_entry};
+ghost use Rattle.bow_units.specs.Sizes.{IsValid};
 ghost use Rattle.bow_log.specs.Spelling.{spell};
 ghost use Rattle.bow_crc.specs.Sums.{first_blocks, sum_of};
 ghost use Rattle.bow_core.specs.Calls.{read_reply, reply_of};
@@ -12,7 +15,7 @@ ghost use Rattle.bow_core.specs.Ports.{Makes};
 use crate::ports::Port;
 use bow_crc::entry_sum;
 use bow_disk::Disk;
-use bow_log::{Log, write_log};
+use bow_log::{Entry, Log, write_log};
 use bow_units::{Failed, Geometry};
 
 /// Reads block `at` into a buffer of one block.
@@ -94,4 +97,27 @@ pub(crate) fn sum_of_slots(buffer: &Vec<u8>, size: u32, first: u64, count: u32) 
     ensures { result ≡ sum_of first (first_blocks count size buffer.now.items) }
 {
     entry_sum(first, &buffer[..count as usize * size as usize], size)
+}
+
+/// The entry of a backup whose content lies in the first slots.
+pub(crate) fn entry_of_slots(
+    geometry: Geometry,
+    buffer: &Vec<u8>,
+    source: u64,
+    dest: u64,
+    count: u32,
+) -> Entry
+    requires valid { IsValid geometry }
+    requires few { count ≤ 8 }
+    requires room { count * geometry.block_size ≤ length buffer.now.items }
+    requires backup { IsBackup geometry (copy_entry source dest count (first_blocks count geometry.block_size
+        buffer.now.items)) }
+    ensures entry { IsEntry geometry result }
+    ensures backup { backup_of geometry result ≡ copy_entry source dest count (first_blocks count geometry.block_size
+        buffer.now.items) }
+    ensures spelled { result ≡ entry_of geometry (copy_entry source dest count (first_blocks count geometry.block_size
+        buffer.now.items)) }
+{
+    let sum = sum_of_slots(buffer, geometry.block_size, source, count);
+    Entry::of_backup(geometry, source, dest, count, sum)
 }

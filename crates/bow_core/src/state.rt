@@ -1,5 +1,6 @@
 // What the device keeps in memory.
-ghost use Rattle.std.specs.Prelude.{◌≡◌, ◌+◌, ◌<◌, ◌≤◌, ◌++◌, ◌∷◌, [], length, IfOk, false};
+ghost use Rattle.std.specs.Prelude.{◌≡◌, ◌+◌, ◌-◌, ◌^◌, ◌<◌, ◌≤◌, ◌++◌, ◌∷◌, [], length, IfOk, false};
+ghost use Rattle.bow_queue.specs.Requests.{fresh_request};
 ghost use Rattle.bow_units.specs.Sizes.{IsValid};
 ghost use Rattle.bow_machine.specs.Memory.{place_of, has_command, has_move, is_direct, kinds_written};
 ghost use Rattle.bow_machine.specs.Laws.{opened};
@@ -14,9 +15,9 @@ ghost use Rattle.bow_core.specs.Held.{with_memory};
 
 use crate::Ticket;
 use crate::hands::Hand;
-use crate::requests::Request;
 use bow_copy::Job;
 use bow_log::Log;
+use bow_queue::Queue;
 use bow_ranges::Ranges;
 use bow_units::{Extent, Geometry, Kind, NoMemory, Op, Phase, Status};
 use std::alloc::Global;
@@ -31,8 +32,7 @@ pub(crate) struct State<R: Ranges> {
     pub(crate) geometry: Geometry,
     pub(crate) phase: Phase,
     pub(crate) table: R,
-    pub(crate) places: u32,
-    pub(crate) requests: Vec<Request>,
+    pub(crate) queue: Queue,
     pub(crate) hand: Hand,
     // What the batch or the command in hand has read: a batch's slots, or block 0.
     pub(crate) buffer: Vec<u8>,
@@ -49,7 +49,6 @@ pub(crate) struct State<R: Ranges> {
 }
 
 impl<R: Ranges> Model for State<R> {
-    ghost use Rattle.std.specs.Prelude.{length, vec_capacity};
     ghost use Rattle.std.specs.Option.{option_map};
     ghost use Rattle.bow_log.specs.Generations.{generation_of};
     ghost use Rattle.bow_core.specs.Held.{Held, hand_of};
@@ -59,11 +58,12 @@ impl<R: Ranges> Model for State<R> {
 
     ghost view = { λ s. record {
       geometry = s.geometry;
-      places = s.places;
+      places = s.queue.places;
+      admitted = s.queue.admitted;
       memory = record {
         phase = s.phase;
         kinds = R.kinds s.table;
-        requests = s.requests.items;
+        requests = s.queue.waiting;
         hand = hand_of s.geometry.block_size s.buffer.items s.hand;
         log = option_map (generation_of s.geometry) s.log;
         clean = s.clean;
@@ -71,8 +71,8 @@ impl<R: Ranges> Model for State<R> {
       };
     } };
 
-    ghost invariant = { λ s. IsKept s.geometry (R.kinds s.table) (length s.requests.items) s.places (vec_capacity
-        s.requests) s.buffer.items s.block.items s.log s.saved };
+    ghost invariant = { λ s. IsKept s.geometry (R.kinds s.table) s.queue.blocks s.buffer.items s.block.items s.log
+        s.saved };
 }
 
 /// So many bytes, all zero.
@@ -105,16 +105,18 @@ impl<R: Ranges> State<R> {
     /// The memory of a device just opened: nothing is free, waits or is in hand.
     pub(crate) fn open(alloc: Global, geometry: Geometry, places: u32) -> Result<State<R>, NoMemory>
         requires valid { IsValid geometry }
+        requires some { 1 ≤ places }
         requires few { places ≤ 16 }
         ensures { IfOk result (λ s. s ≡ record {
           geometry = geometry;
           places = places;
+          admitted = 0;
           memory = opened
               geometry.blocks;
         }) }
     {
         let size = geometry.block_size as usize;
-        let requests = Vec::with_capacity(alloc, places as usize)?;
+        let queue = Queue::open(alloc, places, geometry.blocks)?;
         let buffer = zeros(alloc, MOST_COPIED as usize * size)?;
         let block = zeros(alloc, size)?;
         let mut table = R::open(alloc, geometry.blocks)?;
@@ -123,8 +125,7 @@ impl<R: Ranges> State<R> {
             geometry,
             phase: Phase::Trim,
             table,
-            places,
-            requests,
+            queue,
             hand: Hand::Empty,
             buffer,
             block,
@@ -139,22 +140,27 @@ impl<R: Ranges> State<R> {
     pub(crate) fn spare(&self) -> u32
         ensures { result + length self.now.memory.requests ≡ self.now.places }
     {
-        self.places - self.requests.len() as u32
+        self.queue.spare()
+    }
+
+    /// How many requests were taken in.
+    pub(crate) fn admitted(&self) -> u64
+        ensures { result ≡ self.now.admitted }
+    {
+        self.queue.admitted()
     }
 
     /// Takes a request in, none of whose blocks is done.
-    pub(crate) fn admit(&mut self, ticket: Ticket, op: Op)
-        requires { length self.old.memory.requests < self.old.places }
-        ensures { self.new ≡ with_memory self.old (record self.old.memory {
-          requests = self.old.memory.requests ++
-              record { ticket = ticket; op = op; done = 0 } ∷ [];
-        }) }
+    pub(crate) fn admit(&mut self, op: Op) -> Ticket
+        requires place { length self.old.memory.requests < self.old.places }
+        requires number { self.old.admitted < 2 ^ 64 - 1 }
+        ensures serial { result.serial ≡ self.old.admitted }
+        ensures waits { self.new ≡ record self.old {
+          memory = record self.old.memory { requests = self.old.memory.requests ++ fresh_request result op ∷ [] };
+          admitted = self.old.admitted + 1;
+        } }
     {
-        self.requests.push_reserved(Request {
-            ticket,
-            op,
-            done: 0,
-        });
+        self.queue.admit(op)
     }
 
     /// The size of a block in bytes.
@@ -199,7 +205,7 @@ impl<R: Ranges> State<R> {
         ensures { result ≡ place_of self.now.memory 0 }
     {
         match &self.log {
-            Some(log) => log.sector0 / (self.geometry.block_size as u64 / 512),
+            Some(log) => log.current(self.geometry),
             None => 0,
         }
     }

@@ -1,7 +1,7 @@
 // What a turn does.
-ghost use Rattle.std.specs.Prelude.{◌≡◌, ◌+◌, ◌^◌, ◌<◌, ◌≤◌, length, None, Some, is_some, find, option_copied};
+ghost use Rattle.std.specs.Prelude.{◌≡◌, ◌+◌, ◌^◌, ◌<◌, ◌≤◌, length, None, Some, is_some, option_copied};
 ghost use Rattle.bow_units.specs.Sizes.{IsValid};
-ghost use Rattle.bow_machine.specs.Requests.{Request, refusal, unsettled, has_magic, request_of};
+ghost use Rattle.bow_machine.specs.Requests.{Request, refusal, unsettled, has_magic};
 ghost use Rattle.bow_machine.specs.MemoryIsSound.{IsAdmissible, IsWaiting, MemoryIsSound};
 ghost use Rattle.bow_machine.specs.Tasks.{task_for, unless_command, unless_refused, is_waiting, needs_worker, head};
 ghost use Rattle.bow_machine.specs.Tasks.{Map, Worker, Command};
@@ -11,9 +11,10 @@ ghost use Rattle.bow_core.specs.Tasks.{task_of_request, IsReadOf, IsWriteOf};
 
 use crate::Ticket;
 use crate::hands::Hand;
-use crate::requests::{Request, find_command, find_request, is_on_device, is_waiting};
+use crate::requests::is_on_device;
 use crate::state::State;
 use crate::turns::Turn;
+use bow_queue::Request;
 use bow_ranges::Ranges;
 use bow_units::{Extent, Geometry, Op, Outcome, Phase};
 
@@ -110,7 +111,6 @@ impl<R: Ranges> State<R> {
     /// What the turn of the request does.
     pub(crate) fn task(&self, request: &Request) -> Task
         requires waiting { IsWaiting self.now.geometry request.now }
-        requires found { request_of request.now.ticket self.now.memory.requests ≡ Some request.now }
         ensures { task_of_request request.now result ≡ task_for self.now.geometry self.now.memory request.now
             request.now.op }
     {
@@ -155,7 +155,6 @@ impl<R: Ranges> State<R> {
 
     fn task_of_write(&self, request: &Request, extent: Extent) -> Task
         requires waiting { IsWaiting self.now.geometry request.now }
-        requires found { request_of request.now.ticket self.now.memory.requests ≡ Some request.now }
         requires op { IsWriteOf request.now.op extent }
         ensures { task_of_request request.now result ≡ task_for self.now.geometry self.now.memory request.now
             request.now.op }
@@ -166,7 +165,7 @@ impl<R: Ranges> State<R> {
         if let Some(outcome) = refusal(self.geometry, self.phase, &request.op) {
             return Task::Answers(outcome);
         }
-        if self.is_waiting(request, extent) {
+        if self.is_waiting(request) {
             return Task::Waits;
         }
         if request.done as u64 == extent.count {
@@ -180,12 +179,10 @@ impl<R: Ranges> State<R> {
     }
 
     /// Whether an unanswered write of a smaller serial number overlaps this one.
-    fn is_waiting(&self, request: &Request, extent: Extent) -> bool
-        requires found { request_of request.now.ticket self.now.memory.requests ≡ Some request.now }
-        requires op { IsWriteOf request.now.op extent }
+    fn is_waiting(&self, request: &Request) -> bool
         ensures { result ≡ is_waiting self.now.memory request.now }
     {
-        is_waiting(&self.requests, request.ticket.serial, extent)
+        self.queue.waits_on(request.ticket).is_some()
     }
 
     /// Whether the turn of the request of this ticket makes a step.
@@ -193,7 +190,7 @@ impl<R: Ranges> State<R> {
         requires { MemoryIsSound self.now.geometry self.now.memory }
         ensures { result ≡ is_ready self.now.geometry self.now.memory (Map ticket) }
     {
-        match find_request(&self.requests, ticket) {
+        match self.queue.request(ticket) {
             Some(request) => !self.task(request).is_idle(),
             None => false,
         }
@@ -229,7 +226,7 @@ impl<R: Ranges> State<R> {
     {
         match &self.hand {
             Hand::Batching(_, _) => false,
-            Hand::Empty => find_command(&self.requests).is_some(),
+            Hand::Empty => self.queue.first_command().is_some(),
             Hand::Preparing(_) | Hand::Committing(_) => true,
         }
     }
@@ -237,7 +234,6 @@ impl<R: Ranges> State<R> {
     /// Whether the request is a write that passed the tests, waits on no other, and whose next block is not direct.
     fn needs_worker(&self, request: &Request) -> bool
         requires waiting { IsWaiting self.now.geometry request.now }
-        requires found { request_of request.now.ticket self.now.memory.requests ≡ Some request.now }
         ensures { result ≡ needs_worker self.now.geometry self.now.memory request.now request.now.op }
     {
         match &request.op {
@@ -248,14 +244,13 @@ impl<R: Ranges> State<R> {
 
     fn write_needs_worker(&self, request: &Request, extent: Extent) -> bool
         requires waiting { IsWaiting self.now.geometry request.now }
-        requires found { request_of request.now.ticket self.now.memory.requests ≡ Some request.now }
         requires op { IsWriteOf request.now.op extent }
         ensures { result ≡ needs_worker self.now.geometry self.now.memory request.now request.now.op }
     {
         if refusal(self.geometry, self.phase, &request.op).is_some() {
             return false;
         }
-        if self.is_waiting(request, extent) {
+        if self.is_waiting(request) {
             return false;
         }
         if request.done as u64 >= extent.count {
@@ -269,7 +264,7 @@ impl<R: Ranges> State<R> {
         requires { MemoryIsSound self.now.geometry self.now.memory }
         ensures { option_copied result ≡ head self.now.geometry self.now.memory }
     {
-        for request in &self.requests {
+        for request in self.queue.iter() {
             if self.needs_worker(request) {
                 return Some(request);
             }

@@ -1,8 +1,8 @@
 // How the worker forms a batch.
-ghost use Rattle.std.specs.Prelude.{OnOk, OnErr, ◌≡◌, ◌≢◌, ◌+◌, ◌*◌, ◌<◌, ◌≤◌, ◌==◌, [], length, min, Some, None, IsSome, true, false};
+ghost use Rattle.std.specs.Prelude.{OnOk, OnErr, ◌≡◌, ◌≢◌, ◌+◌, ◌≤◌, ◌==◌, []};
+ghost use Rattle.std.specs.Prelude.{length, min, Some, None, IsSome, true, false};
 ghost use Rattle.bow_log.specs.Generations.{room};
 ghost use Rattle.bow_machine.specs.Memory.{Empty, is_kind_current};
-ghost use Rattle.bow_machine.specs.MemoryIsSound.{MemoryIsSound};
 ghost use Rattle.bow_machine.specs.Steps.{log_of_memory};
 ghost use Rattle.bow_machine.specs.Tasks.{Worker, alike_from, is_source, task_of, without_picked};
 ghost use Rattle.bow_machine.specs.MemoryIsSound.{IsTable};
@@ -10,8 +10,8 @@ ghost use Rattle.bow_ranges.specs.Kinds.{kind_at};
 ghost use Rattle.bow_ranges.specs.Picks.{picked};
 ghost use Rattle.bow_core.specs.Batches.{IsBatching, IsFormed, IsServed};
 ghost use Rattle.bow_core.specs.Held.{with_memory};
-ghost use Rattle.bow_core.specs.Requests.{the_request};
-ghost use Rattle.bow_core.specs.Steps.{IsDone};
+ghost use Rattle.bow_queue.specs.Requests.{the_request};
+ghost use Rattle.bow_core.specs.Steps.{Does, IsInOrder};
 
 use crate::batches::act_of_batch;
 use crate::hands::Hand;
@@ -23,7 +23,6 @@ use crate::tasks::Head;
 use crate::turns::Step;
 use bow_copy::{Batch, Job};
 use bow_disk::Disk;
-use bow_log::capacity;
 use bow_ranges::Ranges;
 use bow_units::{Extent, Kind, Outcome, Phase};
 
@@ -32,13 +31,10 @@ struct NoSpace;
 
 /// Forms a batch for the head, if there is one, and makes its first act. It forms none but in `Checkpoint`.
 pub(crate) fn serve<D: Disk, R: Ranges>(port: &mut Port<D>, state: &mut State<R>) -> Step
-    requires sizes { D.stated port.old.disk ≡ Some state.old.geometry }
-    requires sound { MemoryIsSound state.old.geometry state.old.memory }
+    requires order { IsInOrder D.stated port.old state.old }
     requires empty { state.old.memory.hand ≡ Empty }
-    ensures done { IsDone D.stated D.content D.moment D.left_since D.faults state.old.geometry state.old.memory
-        (task_of state.old.geometry state.old.memory Worker) result state.new.memory port.old.disk port.new.disk
-        port.old.calls port.new.calls }
-    ensures kept { state.new ≡ with_memory state.old state.new.memory }
+    ensures { Does D.stated D.content D.moment D.left_since D.faults port.old state.old
+        (task_of state.old.geometry state.old.memory Worker) result port.new state.new }
 {
     let Phase::Checkpoint = state.phase else {
         return Step::Idle;
@@ -174,7 +170,7 @@ impl<R: Ranges> State<R> {
         ensures { result ≡ (length (log_of_memory self.now.memory).entries == room self.now.geometry.block_size) }
     {
         match &self.log {
-            Some(log) => log.entries.len() == capacity(self.geometry.block_size) as usize,
+            Some(log) => log.is_full(self.geometry),
             None => unreachable!(),
         }
     }

@@ -139,6 +139,25 @@ module _ (n : ℕ) where
   none_within true c p w = tt
   none_within false c p w = w
 
+  -- the checkpoint of a state that has one
+  checkpoint_of : (f : Flat) → IsState f → HasCheckpoint f.phase → (h : Unit {0}) → (f.used 0 ≡ true) × IsPlain (f.saved 0)
+  checkpoint_of f k has h = (k.used_0 has, k.plain_saved has)
+
+  -- a state after the arming: of what was discarded, and of what is in use, nothing is said
+  armed : (h : Flat) → IsPlainList (h.current 0) → IsPlainList (h.pending 0) → ((b : ℕ) → IsWithin (h.current b) (h.pending b)) → h.phase ≢ Trim → h.phase ≢ Arming
+      → (HasCheckpoint h.phase → (h.used 0 ≡ true) × IsPlain (h.saved 0)) → IsState h
+  armed h current_0 pending_0 within trim arming kept = record {
+    current_0 = current_0;
+    pending_0 = pending_0;
+    within = within;
+    discarded = λ is. absurd (trim is);
+    arming_used = λ is. absurd (arming is);
+    arming_pending = λ is. absurd (arming is);
+    arming_saved = λ is. absurd (arming is);
+    used_0 = λ h. (kept h).0;
+    plain_saved = λ h. (kept h).1;
+  }
+
   pub stays_valid : (event : Event) (f : Flat) → IsState f → Allows n event f → IsOrderly event f → IsState (after n event f)
   stays_valid (Writes b v) f k may o = written f b _ _ o.0 o.1 (λ z. plain_one v (o.2 z)) (λ z. plain_added (f.pending b) v (subst (λ y. IsPlainList (f.pending y)) (sym z) k.pending_0) (o.2 z)) (within_write (f.pending b) v) k
   stays_valid (Fails b v) f k may o = written f b _ _ o.0 o.1 (λ z. plain_added (f.current b) v (subst (λ y. IsPlainList (f.current y)) (sym z) k.current_0) (o.2 z)) (λ z. plain_added (f.pending b) v (subst (λ y. IsPlainList (f.pending y)) (sym z) k.pending_0) (o.2 z)) (within_added (f.current b) (f.pending b) v (k.within b)) k
@@ -199,39 +218,9 @@ module _ (n : ℕ) where
       member : (c : Option (List (List ℕ))) (v : List ℕ) → IsPlainList c → May c v → IsPlain v
       member None v h a = absurd h
       member (Some cs) v h a = h v a
-  stays_valid Prepares f k may o = record {
-    current_0 = k.current_0;
-    pending_0 = k.pending_0;
-    within = k.within;
-    discarded = λ is. absurd (grind arith);
-    arming_used = λ is. absurd (grind arith);
-    arming_pending = λ is. absurd (grind arith);
-    arming_saved = λ is. absurd (grind arith);
-    used_0 = λ h. k.used_0 (subst HasCheckpoint (sym may) tt);
-    plain_saved = λ h. k.plain_saved (subst HasCheckpoint (sym may) tt);
-  }
-  stays_valid Decides f k may o = record {
-    current_0 = k.current_0;
-    pending_0 = k.current_0;
-    within = λ x. within_refl (f.current x);
-    discarded = λ is. absurd (grind arith);
-    arming_used = λ is. absurd (grind arith);
-    arming_pending = λ is. absurd (grind arith);
-    arming_saved = λ is. absurd (grind arith);
-    used_0 = λ h. k.used_0 (subst HasCheckpoint (sym may) tt);
-    plain_saved = λ h. k.plain_saved (subst HasCheckpoint (sym may) tt);
-  }
-  stays_valid Commits f k may o = record {
-    current_0 = k.current_0;
-    pending_0 = k.pending_0;
-    within = k.within;
-    discarded = λ is. absurd (grind arith);
-    arming_used = λ is. absurd (grind arith);
-    arming_pending = λ is. absurd (grind arith);
-    arming_saved = λ is. absurd (grind arith);
-    used_0 = λ h. absurd h;
-    plain_saved = λ h. absurd h;
-  }
+  stays_valid Prepares f k may o = armed (after n Prepares f) k.current_0 k.pending_0 k.within (λ is. absurd (grind arith)) (λ is. absurd (grind arith)) (checkpoint_of f k (subst HasCheckpoint (sym may) tt))
+  stays_valid Decides f k may o = armed (after n Decides f) k.current_0 k.current_0 (λ x. within_refl (f.current x)) (λ is. absurd (grind arith)) (λ is. absurd (grind arith)) (checkpoint_of f k (subst HasCheckpoint (sym may) tt))
+  stays_valid Commits f k may o = armed (after n Commits f) k.current_0 k.pending_0 k.within (λ is. absurd (grind arith)) (λ is. absurd (grind arith)) (λ h. absurd h)
   stays_valid Rests f k may o = k
 
 -- the opening state of an image without a magic in block 0

@@ -3,7 +3,6 @@ use Rattle.std.specs.Prelude.{ℕ, ◌≡◌, ◌≢◌, true, not, List, Option
 use Rattle.bow_units.specs.declared.requests.Phase.{Phase}
 use Rattle.bow_units.specs.declared.requests.Phase.TheVariants.{Trim, Arming, Checkpoint, Deciding, Committed}
 use Rattle.bow_units.specs.Magics.{IsPlain}
-pub use Rattle.bow_units.specs.Magics.{IsPlain as HasNoMagic}
 use Rattle.bow_flat.specs.Flat.{Flat, Event, is_any}
 use Rattle.bow_flat.specs.Flat.Event.{Writes, Fails, Discards}
 

@@ -1,5 +1,11 @@
 // What holds of the device from the checkpoint on, whatever code drives it.
-ghost use Rattle.bow_guard.specs.Laws.{CutsKeep, KeptAtSafePlaces, SafeIsNotLoose, LooseWrites, LooseKinds, FlushKeeps, LastFlush, CopiesLogged, LinkLogged, MoveLogged, LogRewritten, CutsStand, WritesInPlace, WritesToFree, ReadsInPlace, FlushesInPlace, DiscardsInPlace, PrepareArms, FirstLogGiven, ReadsArming, PrepareEnds, CommitDecides, DecidesAgain, FlushesDeciding, ReadsDeciding, CommitEnds, Together, CutsAreAhead, CrashesAreCuts, WritesAreGiven, WritesArePut, FlushesAreDone};
+ghost use Rattle.bow_guard.specs.Laws.{CutsKeep, KeptAtSafePlaces, SafeIsNotLoose, LooseWrites, LooseKinds};
+ghost use Rattle.bow_guard.specs.Laws.{FlushKeeps, LastFlush, CopiesLogged, LinkLogged, MoveLogged, LogRewritten};
+ghost use Rattle.bow_guard.specs.Laws.{CutsStand, WritesInPlace, WritesToFree, ReadsInPlace, FlushesInPlace};
+ghost use Rattle.bow_guard.specs.Laws.{DiscardsInPlace, PrepareArms, FirstLogGiven, ReadsArming, PrepareEnds};
+ghost use Rattle.bow_guard.specs.Laws.{CommitDecides, DecidesAgain, FlushesDeciding, ReadsDeciding, CommitEnds};
+ghost use Rattle.bow_guard.specs.Laws.{Together, CutsAreAhead, CrashesAreCuts, WritesAreGiven, WritesArePut};
+ghost use Rattle.bow_guard.specs.Laws.{FlushesAreDone};
 
 /// A cut of a guarded device leaves an image that is sound and keeps the checkpoint. Behind whichever log it leaves all
 /// is kept at safe places, and none of these may be written in place.

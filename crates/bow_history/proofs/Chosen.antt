@@ -1,11 +1,11 @@
 -- The actor who is chosen is ready, where some actor is.
-use Rattle.std.proofs.Common.{ℕ, zero, suc, ◌+◌, ◌<◌, ◌≤◌, ◌≡◌, ◌≢◌, ◌⊎◌, ◌==◌, nat_lt, Bool, true, false, cond, arith, refl, sym, ap, ◌∙◌, subst, inl, inr}
+use Rattle.std.proofs.Common.{ℕ, zero, suc, ◌+◌, ◌<◌, ◌≤◌, ◌≡◌, ◌≢◌, ◌⊎◌, ◌==◌, nat_lt, Bool, true, false, cond, arith, refl, sym, ap, ◌∙◌, inl, inr}
 use Rattle.std.proofs.lemmas.Bool.{false≢true, cases_eq, cases_lt, and_parts, ltb-true}
 use Rattle.bow_history.specs.declared.items.Actor.{Actor}
 use Rattle.bow_history.specs.declared.items.Actor.TheVariants.{Lane, Worker, Command}
 use Rattle.bow_history.specs.Journal.{Plan}
 use Rattle.bow_history.specs.Sessions.{Session}
-use Rattle.bow_history.specs.Ready.{is_lane_ready, is_actor_ready}
+use Rattle.bow_history.specs.Ready.{is_actor_ready}
 use Rattle.bow_history.specs.Schedule.{actor_at, next_round, first_ready, ChosenIsReady}
 use Rattle.bow_history.proofs.Progress.{some_is_ready}
 

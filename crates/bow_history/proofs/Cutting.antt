@@ -14,13 +14,12 @@ use Rattle.bow_machine.proofs.Ahead.{led_is_ahead}
 use Rattle.bow_queue.specs.declared.tickets.Ticket.{Ticket}
 use Rattle.bow_machine.specs.Requests.{Request, request_of}
 use Rattle.bow_machine.specs.Memory.{Hand, Empty, Batching, Preparing, Committing, ReadsBlock0, WritesCurrent, WritesBackup, FlushesCopies, WritesFirstLog, FlushesFirstLog, FlushesAll, ReadsCurrent, WritesBlock0, FlushesDecision}
-use Rattle.bow_machine.proofs.Held.{HandHeld, ForCommand}
+use Rattle.bow_machine.specs.MemoryIsSound.{IsForCommand, HandIsSound}
+use Rattle.bow_machine.specs.Deeds.{MayHaveArmed}
 use Rattle.bow_machine.proofs.Cuts.{machine_cut}
-use Rattle.bow_machine.proofs.Joined.{held}
-use Rattle.bow_history.proofs.Leads.{IsForIt, for_it}
 use Rattle.bow_history.specs.declared.items.Item.{Item}
 use Rattle.bow_history.specs.Journal.{Plan, Buffers, Place, Legal, IsNext, IsMidway}
-use Rattle.bow_history.specs.Lags.{Lags, IsArmed}
+use Rattle.bow_history.specs.Lags.{Lags, LagsBy}
 use Rattle.bow_history.specs.Sessions.{Session, Turned, IsFor, IsTurn, after_turn, item_in, call_in, reply_in}
 use Rattle.bow_history.specs.Histories.{Disk, session_after, journal_of, with_item, with_items, calls_in, moments_of, DoesTurn, Runs, LeftSince}
 use Rattle.bow_history.specs.Fits.{IsAt, Agrees}
@@ -56,34 +55,33 @@ module _ (plan : Plan) (s : Session) (d : Disk) (p : Place) (k : IsAt plan s d p
       let seat = k.seated.each l.0 t l.1 in
       (l.0, seat.asked, ap (plan.request l.0) (k.number l.0) ∙ seat.next, subst (λ (x : Request). IsFor plan.sizes seat.asked x.op) (one_of (request_of t s.memory.requests) seat.request r seat.waits waits) seat.is)
 
-  pub midway : IsMidway plan p k.flat
-  midway = go s.memory.hand k.lags (for_it plan.sizes s.memory s.memory.hand s.memory.log k.stands.sound.in_hand) (held plan.sizes s.memory d.now d.may k.flat k.stands).in_hand
-    where
-      armed : (t : Ticket) → ((r : Request) → request_of t s.memory.requests ≡ Some r → r.op ≡ ops.Prepare) → ForCommand s.memory.requests t → IsArmed plan.sizes.blocks k.flat p.flat → IsMidway plan p k.flat
-      armed t is held a =
-          let n = next_of t held.command held.waits in
-          let asked = for_prepare plan.sizes n.1 (subst (IsFor plan.sizes n.1) (is held.command held.waits) n.3) in
-          inr (inl (n.0, n.2 ∙ ap Some asked, a.0, (a.1, a.2)))
+  -- the lane of the command in hand asks for it next
+  lane_of_command : (t : Ticket) (op : Op) → IsForCommand s.memory.requests t op → ((asked : Op) → IsFor plan.sizes asked op → asked ≡ op) → (lane : ℕ) × IsNext plan p lane op
+  lane_of_command t op w only =
+      let next = next_of t w.command w.waits in
+      (next.0, next.2 ∙ ap Some (only next.1 (subst (IsFor plan.sizes next.1) w.asks next.3)))
 
-      go : (hand : Hand) → Lags plan.sizes.blocks hand k.flat p.flat → IsForIt s.memory.requests hand → HandHeld plan.sizes s.memory hand d.now d.may s.memory.log → IsMidway plan p k.flat
-      go Empty lags is held = inl lags
-      go (Batching b) lags is held = inl lags
-      go (Preparing t c b ReadsBlock0) lags is held = inl lags
-      go (Preparing t c b (WritesCurrent x)) lags is held = inl lags
-      go (Preparing t c b (WritesBackup x)) lags is held = inl lags
-      go (Preparing t c b (FlushesCopies x)) lags is held = inl lags
-      go (Preparing t c b WritesFirstLog) (inl lags) is held = inl lags
-      go (Preparing t c b WritesFirstLog) (inr a) is held = armed t is held.1 a
-      go (Preparing t c b FlushesFirstLog) (inl lags) is held = inl lags
-      go (Preparing t c b FlushesFirstLog) (inr a) is held = armed t is held.1 a
-      go (Committing t again FlushesAll) lags is held = inl lags
-      go (Committing t again ReadsCurrent) lags is held = inl lags
-      go (Committing t again (WritesBlock0 x)) lags is held = inl lags
-      go (Committing t true FlushesDecision) lags is held = inl lags
-      go (Committing t false FlushesDecision) lags is held =
-          let n = next_of t (held.1).command (held.1).waits in
-          let asked = for_commit plan.sizes n.1 (subst (IsFor plan.sizes n.1) (is (held.1).command (held.1).waits) n.3) in
-          inr (inr (n.0, n.2 ∙ ap Some asked, (lags.0, lags.1)))
+  pub midway : IsMidway plan p k.flat
+  midway = go s.memory.hand k.lags k.stands.sound.in_hand
+    where
+      armed : (t : Ticket) → IsForCommand s.memory.requests t ops.Prepare → LagsBy plan.sizes.blocks MayHaveArmed k.flat p.flat → IsMidway plan p k.flat
+      armed t w (inl same) = inl same
+      armed t w (inr a) = let next = lane_of_command t ops.Prepare w (for_prepare plan.sizes) in inr (inl (next.0, next.1, a.0, (a.1, a.2)))
+
+      go : (hand : Hand) → Lags plan.sizes.blocks hand k.flat p.flat → HandIsSound plan.sizes s.memory hand s.memory.log → IsMidway plan p k.flat
+      go Empty lags h = inl lags
+      go (Batching b) lags h = inl lags
+      go (Preparing t c b ReadsBlock0) lags h = inl lags
+      go (Preparing t c b (WritesCurrent x)) lags h = inl lags
+      go (Preparing t c b (WritesBackup x)) lags h = inl lags
+      go (Preparing t c b (FlushesCopies x)) lags h = inl lags
+      go (Preparing t c b WritesFirstLog) lags h = armed t h.1 lags
+      go (Preparing t c b FlushesFirstLog) lags h = armed t h.1 lags
+      go (Committing t again FlushesAll) lags h = inl lags
+      go (Committing t again ReadsCurrent) lags h = inl lags
+      go (Committing t again (WritesBlock0 x)) lags h = inl lags
+      go (Committing t true FlushesDecision) lags h = inl lags
+      go (Committing t false FlushesDecision) lags h = let next = lane_of_command t ops.Commit h.1 (for_commit plan.sizes) in inr (inr (next.0, next.1, (lags.0, lags.1)))
 
   -- what a cut leaves now stands at the front of what is still to come
   abbrev pub here : (says : Flat → Contents → Type 0) (buffer : Buffers) (journal : List Item) (last : Place) (image : Contents)
@@ -118,44 +116,59 @@ low_moments plan s (turn ∷ turns) calls i below = go (item_in plan s turn) i b
     go (Some item) zero below rest = omega arith
     go (Some item) (suc i) below rest = omega (arith, rest i (omega (arith, below)))
 
--- an image on the way of what comes after a turn is on the way from before it
-on_the_way : (says : Flat → Contents → Type 0) (plan : Plan) (item : Option Item) (buffer : Buffers) (items : List Item) (p mid last : Place) (n : ℕ) (image : Contents) → MaybeStep plan buffer item p mid → IsOnTheWayBy says plan buffer items mid last n image → IsOnTheWayBy says plan buffer (with_items item items) p last n image
-on_the_way says plan None buffer items p mid last n image step w = subst (λ x. IsOnTheWayBy says plan buffer items x last n image) step w
-on_the_way says plan (Some item) buffer items p mid last n image step w = record {
-  front = suc w.front;
-  has = omega (arith, w.has);
-  within = omega (arith, w.within);
-  place = w.place;
-  before = (mid, step, w.before);
-  after = w.after;
-  flat = w.flat;
-  midway = w.midway;
-  stands = w.stands;
-}
+module _ (says : Flat → Contents → Type 0) (plan : Plan) (buffer : Buffers) (last : Place) where
+  -- an image on the way of what comes after a turn is on the way from before it
+  on_the_way : (item : Option Item) (items : List Item) (p mid : Place) (n : ℕ) (image : Contents) → MaybeStep plan buffer item p mid → IsOnTheWayBy says plan buffer items mid last n image → IsOnTheWayBy says plan buffer (with_items item items) p last n image
+  on_the_way None items p mid n image step w = subst (λ x. IsOnTheWayBy says plan buffer items x last n image) step w
+  on_the_way (Some item) items p mid n image step w = record {
+    front = suc w.front;
+    has = omega (arith, w.has);
+    within = omega (arith, w.within);
+    place = w.place;
+    before = (mid, step, w.before);
+    after = w.after;
+    flat = w.flat;
+    midway = w.midway;
+    stands = w.stands;
+  }
 
--- and has one item more, if the turn made one
-on_with : (says : Flat → Contents → Type 0) (plan : Plan) (item : Item) (buffer : Buffers) (items : List Item) (p mid last : Place) (n : ℕ) (image : Contents) → MaybeStep plan buffer (Some item) p mid → IsOnTheWayBy says plan buffer items mid last n image → IsOnTheWayBy says plan buffer (item ∷ items) p last (suc n) image
-on_with says plan item buffer items p mid last n image step w = record { front = suc w.front; has = omega (arith, w.has); within = omega (arith, w.within); place = w.place; before = (mid, step, w.before); after = w.after; flat = w.flat; midway = w.midway; stands = w.stands }
+  -- and has one item more, if the turn made one
+  on_with : (item : Item) (items : List Item) (p mid : Place) (n : ℕ) (image : Contents) → MaybeStep plan buffer (Some item) p mid → IsOnTheWayBy says plan buffer items mid last n image → IsOnTheWayBy says plan buffer (item ∷ items) p last (suc n) image
+  on_with item items p mid n image step w = record { front = suc w.front; has = omega (arith, w.has); within = omega (arith, w.within); place = w.place; before = (mid, step, w.before); after = w.after; flat = w.flat; midway = w.midway; stands = w.stands }
 
--- a cut since the moment of an item, at the first turn of a run
-split : (says : Flat → Contents → Type 0) (plan : Plan) (buffer : Buffers) (s : Session) (calls : ℕ) (d e : Disk) (turn : Turned) (turns : List Turned) (p : Place) (run : Runs plan s d (turn ∷ turns) e) (last mid : Place) (made : Option Item)
-    → MaybeStep plan buffer made p mid
-    → ((since : ℕ) (image : Contents) → LeftSince plan (after_turn plan s turn) (calls + calls_in (call_in plan s turn)) run.1 turns e run.3 since image → IsOnTheWayBy says plan buffer (journal_of plan (after_turn plan s turn) turns) mid last 0 image)
-    → ((i : ℕ) (image : Contents) → i < length (journal_of plan (after_turn plan s turn) turns)
-    → LeftSince plan (after_turn plan s turn) (calls + calls_in (call_in plan s turn)) run.1 turns e run.3 (slice_index_or (moments_of plan (after_turn plan s turn) (calls + calls_in (call_in plan s turn)) turns) i 0) image
-    → IsOnTheWayBy says plan buffer (journal_of plan (after_turn plan s turn) turns) mid last (suc i) image)
-    → (i : ℕ) (image : Contents) → i < length (with_items made (journal_of plan (after_turn plan s turn) turns))
-    → ((slice_index_or (with_item made (calls + calls_in (call_in plan s turn)) (moments_of plan (after_turn plan s turn) (calls + calls_in (call_in plan s turn)) turns)) i 0 ≤ calls) × (calls_in (call_in plan s turn) ≡ 1) × IsCut plan.sizes d.may image)
-    ⊎ LeftSince plan (after_turn plan s turn) (calls + calls_in (call_in plan s turn)) run.1 turns e run.3 (slice_index_or (with_item made (calls + calls_in (call_in plan s turn)) (moments_of plan (after_turn plan s turn) (calls + calls_in (call_in plan s turn)) turns)) i 0) image
-    → IsOnTheWayBy says plan buffer (with_items made (journal_of plan (after_turn plan s turn) turns)) p last (suc i) image
-split says plan buffer s calls d e turn turns p run last mid None step ever item i image below (inl now) =
-    absurd (let low = low_moments plan (after_turn plan s turn) turns (calls + calls_in (call_in plan s turn)) i below in omega (arith, low, now.0, now.1))
-split says plan buffer s calls d e turn turns p run last mid None step ever item i image below (inr later) = subst (λ x. IsOnTheWayBy says plan buffer (journal_of plan (after_turn plan s turn) turns) x last (suc i) image) step (item i image below later)
-split says plan buffer s calls d e turn turns p run last mid (Some made) step ever item zero image below (inl now) = absurd (omega (arith, now.0, now.1))
-split says plan buffer s calls d e turn turns p run last mid (Some made) step ever item (suc i) image below (inl now) =
-    absurd (let low = low_moments plan (after_turn plan s turn) turns (calls + calls_in (call_in plan s turn)) i (omega (arith, below)) in omega (arith, low, now.0, now.1))
-split says plan buffer s calls d e turn turns p run last mid (Some made) step ever item zero image below (inr later) = on_with says plan made buffer (journal_of plan (after_turn plan s turn) turns) p mid last 0 image step (ever _ image later)
-split says plan buffer s calls d e turn turns p run last mid (Some made) step ever item (suc i) image below (inr later) = on_with says plan made buffer (journal_of plan (after_turn plan s turn) turns) p mid last (suc i) image step (item i image (omega (arith, below)) later)
+  -- the first turn of a run, with so many calls before it, and the turns after it
+  module _ (s : Session) (calls : ℕ) (d e : Disk) (turn : Turned) (turns : List Turned) (run : Runs plan s d (turn ∷ turns) e) where
+    abbrev next : Session
+    next = after_turn plan s turn
+
+    abbrev later : ℕ
+    later = calls + calls_in (call_in plan s turn)
+
+    abbrev to_come : List Item
+    to_come = journal_of plan next turns
+
+    abbrev moments : List ℕ
+    moments = moments_of plan next later turns
+
+    -- what a cut of the turns after it leaves is on the way
+    record RestLeads (mid : Place) : Type 0 where
+      ever : (since : ℕ) (image : Contents) → LeftSince plan next later run.1 turns e run.3 since image → IsOnTheWayBy says plan buffer to_come mid last 0 image
+      item : (i : ℕ) (image : Contents) → i < length to_come → LeftSince plan next later run.1 turns e run.3 (slice_index_or moments i 0) image
+          → IsOnTheWayBy says plan buffer to_come mid last (suc i) image
+
+    -- an image that was left by a cut since then: just before its call, or after it
+    abbrev IsLeft : ℕ → Contents → Type 0
+    IsLeft since image = ((since ≤ calls) × (calls_in (call_in plan s turn) ≡ 1) × IsCut plan.sizes d.may image) ⊎ LeftSince plan next later run.1 turns e run.3 since image
+
+    -- a cut since the moment of an item is on the way of a journal that has the item
+    split : (p mid : Place) (made : Option Item) → MaybeStep plan buffer made p mid → RestLeads mid → (i : ℕ) (image : Contents) → i < length (with_items made to_come)
+        → IsLeft (slice_index_or (with_item made later moments) i 0) image → IsOnTheWayBy says plan buffer (with_items made to_come) p last (suc i) image
+    split p mid None step rest i image below (inl now) = absurd (let low = low_moments plan next turns later i below in omega (arith, low, now.0, now.1))
+    split p mid None step rest i image below (inr after) = subst (λ x. IsOnTheWayBy says plan buffer to_come x last (suc i) image) step (rest.item i image below after)
+    split p mid (Some made) step rest zero image below (inl now) = absurd (omega (arith, now.0, now.1))
+    split p mid (Some made) step rest (suc i) image below (inl now) = absurd (let low = low_moments plan next turns later i (omega (arith, below)) in omega (arith, low, now.0, now.1))
+    split p mid (Some made) step rest zero image below (inr after) = on_with made to_come p mid 0 image step (rest.ever _ image after)
+    split p mid (Some made) step rest (suc i) image below (inr after) = on_with made to_come p mid (suc i) image step (rest.item i image (omega (arith, below)) after)
 
 pub with_step : (plan : Plan) (made : Option Item) (buffer : Buffers) (p mid q : Place) (items : List Item) → MaybeStep plan buffer made p mid → Legal plan buffer items mid q → Legal plan buffer (with_items made items) p q
 with_step plan None buffer p mid q items step legal = subst (λ x. Legal plan buffer items x q) step legal
@@ -196,9 +209,9 @@ module _ (plan : Plan) (says : Flat → Contents → Type 0) (IsGood : Session �
         legal = legal;
         ever = λ buffer agrees since image cut. elim cut [
           | inl before ↦ here plan s d p k says buffer (journal_of plan s (turn ∷ turns)) rest.place image (legal buffer agrees) (now s d p k good image before.2)
-          | inr after ↦ on_the_way says plan (item_in plan s turn) buffer later p step.place rest.place 0 image (step.step buffer (back buffer agrees)) (rest.ever buffer agrees since image after)
+          | inr after ↦ on_the_way says plan buffer rest.place (item_in plan s turn) later p step.place 0 image (step.step buffer (back buffer agrees)) (rest.ever buffer agrees since image after)
         ];
-        item = λ buffer agrees i image below cut. split says plan buffer s calls d e turn turns p run rest.place step.place (item_in plan s turn) (step.step buffer (back buffer agrees)) (rest.ever buffer agrees) (rest.item buffer agrees) i image below cut;
+        item = λ buffer agrees i image below cut. split says plan buffer rest.place s calls d e turn turns run p step.place (item_in plan s turn) (step.step buffer (back buffer agrees)) (record { ever = rest.ever buffer agrees; item = rest.item buffer agrees }) i image below cut;
         end = rest.end;
       }
 

@@ -32,23 +32,29 @@ run_push plan s d e x (t ∷ turns) turn run is does = (run.0, run.1, run.2, run
 crash_is_cut : (plan : Plan) (c : Content) (image : List (List ℕ)) → length c.candidates ≡ plan.sizes.blocks → IsCrash c.candidates image → IsCut plan.sizes (candidates_of c.candidates) (contents_of image)
 crash_is_cut plan c image listed crash b below = crash.each b (omega (arith, listed, below))
 
--- what a cut leaves at the end of the longer run
-left_end : (plan : Plan) (s : Session) (calls : ℕ) (d e x : Disk) (turns : List Turned) (turn : Turned) (run : Runs plan s d turns e) (is : IsTurn plan (session_after plan s turns) turn) (does : DoesTurn plan (session_after plan s turns) turn e x)
-    (since : ℕ) (image : Contents) → IsCut plan.sizes x.may image → LeftSince plan s calls d (turns ++ turn ∷ []) x (run_push plan s d e x turns turn run is does) since image
-left_end plan s calls d e x [] turn run is does since image cut = inr cut
-left_end plan s calls d e x (t ∷ turns) turn run is does since image cut = inr (left_end plan (after_turn plan s t) (calls + calls_in (call_in plan s t)) run.1 e x turns turn run.3 is does since image cut)
+-- a turn more, after a run
+module _ (plan : Plan) (turn : Turned) (e x : Disk) where
+  -- it may be made after these turns, and leads from the one disk to the other
+  abbrev IsMore : Session → List Turned → Type 0
+  IsMore s turns = IsTurn plan (session_after plan s turns) turn × DoesTurn plan (session_after plan s turns) turn e x
 
--- what it left of the shorter run it leaves of the longer one
-left_push : (plan : Plan) (s : Session) (calls : ℕ) (d e x : Disk) (turns : List Turned) (turn : Turned) (run : Runs plan s d turns e) (is : IsTurn plan (session_after plan s turns) turn) (does : DoesTurn plan (session_after plan s turns) turn e x)
-    (since : ℕ) (image : Contents) → since ≤ calls_after plan s calls turns → LeftSince plan s calls d turns e run since image
-    → LeftSince plan s calls d (turns ++ turn ∷ []) x (run_push plan s d e x turns turn run is does) since image
-left_push plan s calls d e x [] turn run is does since image early cut = go (call_in plan s turn) does
-  where
-    go : (call : Option Call) → DoesIt plan.sizes call (reply_in turn) e.now e.may x.now x.may → ((since ≤ calls) × (calls_in call ≡ 1) × IsCut plan.sizes d.may image) ⊎ IsCut plan.sizes x.may image
-    go None does = inr (subst (λ m. IsCut plan.sizes m image) (sym does.1) (subst (λ (y : Disk). IsCut plan.sizes y.may image) (sym run) cut))
-    go (Some call) does = inl (early, refl, cut)
-left_push plan s calls d e x (t ∷ turns) turn run is does since image early (inl now) = inl now
-left_push plan s calls d e x (t ∷ turns) turn run is does since image early (inr later) = inr (left_push plan (after_turn plan s t) (calls + calls_in (call_in plan s t)) run.1 e x turns turn run.3 is does since image early later)
+  -- what a cut leaves at the end of the longer run
+  left_end : (s : Session) (calls : ℕ) (d : Disk) (turns : List Turned) (run : Runs plan s d turns e) (more : IsMore s turns) (since : ℕ) (image : Contents) → IsCut plan.sizes x.may image
+      → LeftSince plan s calls d (turns ++ turn ∷ []) x (run_push plan s d e x turns turn run more.0 more.1) since image
+  left_end s calls d [] run more since image cut = inr cut
+  left_end s calls d (t ∷ turns) run more since image cut = inr (left_end (after_turn plan s t) (calls + calls_in (call_in plan s t)) run.1 turns run.3 more since image cut)
+
+  -- what it left of the shorter run it leaves of the longer one
+  left_push : (s : Session) (calls : ℕ) (d : Disk) (turns : List Turned) (run : Runs plan s d turns e) (more : IsMore s turns) (since : ℕ) (image : Contents)
+      → since ≤ calls_after plan s calls turns → LeftSince plan s calls d turns e run since image
+      → LeftSince plan s calls d (turns ++ turn ∷ []) x (run_push plan s d e x turns turn run more.0 more.1) since image
+  left_push s calls d [] run more since image early cut = go (call_in plan s turn) more.1
+    where
+      go : (call : Option Call) → DoesIt plan.sizes call (reply_in turn) e.now e.may x.now x.may → ((since ≤ calls) × (calls_in call ≡ 1) × IsCut plan.sizes d.may image) ⊎ IsCut plan.sizes x.may image
+      go None does = inr (subst (λ m. IsCut plan.sizes m image) (sym does.1) (subst (λ (y : Disk). IsCut plan.sizes y.may image) (sym run) cut))
+      go (Some call) does = inl (early, refl, cut)
+  left_push s calls d (t ∷ turns) run more since image early (inl now) = inl now
+  left_push s calls d (t ∷ turns) run more since image early (inr later) = inr (left_push (after_turn plan s t) (calls + calls_in (call_in plan s t)) run.1 turns run.3 more since image early later)
 
 module _ {D : Type 0} (content : D → Option Content) (moment : D → ℕ) (left_since : D → ℕ → List (List ℕ) → Type 0)
     (only_now : (d : D) (c : Content) → content d ≡ Some c → (t : ℕ) (image : List (List ℕ)) → moment d ≤ t → left_since d t image → IsCrash c.candidates image) where
@@ -93,11 +99,11 @@ module _ {D : Type 0} (content : D → Option Content) (moment : D → ℕ) (lef
       counted (Some call) passes = let one = one_more (moment before) (moment after) (2 ^ 64 - 1) (goes passes).count in omega (arith, one, has.counted)
 
       at_end : (since : ℕ) (image : List (List ℕ)) → IsCrash e.candidates image → LeftSince plan s (moment first) d (turns ++ turn ∷ []) (disk_of e) (run_push plan s d (disk_of has.last) (disk_of e) turns turn has.run is does_it) since (contents_of image)
-      at_end since image crash = left_end plan s (moment first) d (disk_of has.last) (disk_of e) turns turn has.run is does_it since (contents_of image) (crash_is_cut plan e image listed crash)
+      at_end since image crash = left_end plan turn (disk_of has.last) (disk_of e) s (moment first) d turns has.run (is, does_it) since (contents_of image) (crash_is_cut plan e image listed crash)
 
       before_it : (since : ℕ) (image : List (List ℕ)) → moment first ≤ since → since ≤ moment before → left_since before since image
           → LeftSince plan s (moment first) d (turns ++ turn ∷ []) (disk_of e) (run_push plan s d (disk_of has.last) (disk_of e) turns turn has.run is does_it) since (contents_of image)
-      before_it since image late early past = left_push plan s (moment first) d (disk_of has.last) (disk_of e) turns turn has.run is does_it since (contents_of image) (omega (arith, early, has.counted)) (has.left since image late past)
+      before_it since image late early past = left_push plan turn (disk_of has.last) (disk_of e) s (moment first) d turns has.run (is, does_it) since (contents_of image) (omega (arith, early, has.counted)) (has.left since image late past)
 
       by_call : (call : Option Call) → Passes (calls_in call) (content after) (moment before) (moment after) (left_since before) (left_since after)
           → (moment after ≤ moment before + 1) × ((since : ℕ) (image : List (List ℕ)) → since ≤ moment before → left_since after since image → left_since before since image ⊎ IsCrash e.candidates image)
@@ -127,7 +133,7 @@ module _ {D : Type 0} (content : D → Option Content) (moment : D → ℕ) (lef
         | inr new ↦ inr (at_end (moment first) image new)
         | inl was ↦ elim (has.early since image low was) [
           | inl first_one ↦ inl first_one
-          | inr run_one ↦ inr (left_push plan s (moment first) d (disk_of has.last) (disk_of e) turns turn has.run is does_it (moment first) (contents_of image) (omega (arith, has.later, has.counted)) run_one)
+          | inr run_one ↦ inr (left_push plan turn (disk_of has.last) (disk_of e) s (moment first) d turns has.run (is, does_it) (moment first) (contents_of image) (omega (arith, has.later, has.counted)) run_one)
         ]
       ]
 

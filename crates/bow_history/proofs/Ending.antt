@@ -1,12 +1,11 @@
 -- Each turn of a ready actor leaves fewer turns, and each item fewer items.
-use Rattle.std.proofs.Common.{ℕ, zero, suc, ◌+◌, ◌-◌, ◌*◌, ◌<◌, ◌≤◌, ◌≡◌, ◌≢◌, ◌&&◌, true, List, [], ◌∷◌, ◌++◌, Option, Some, None, arith, refl, sym}
+use Rattle.std.proofs.Common.{ℕ, zero, suc, ◌+◌, ◌-◌, ◌*◌, ◌<◌, ◌≤◌, ◌≡◌, ◌≢◌, true, List, [], ◌∷◌, ◌++◌, Option, Some, None, arith, refl, sym}
 use Rattle.std.proofs.Common.{ap, ◌∙◌, subst, inl, inr, mul-le-mul_right}
 use Rattle.std.proofs.lemmas.Bool.{cases_eq, and_parts}
 use Rattle.std.specs.Option.{option_map}
 use Rattle.bow_units.specs.declared.requests.Op.{Op}
 use Rattle.bow_units.specs.declared.requests.Op.TheVariants as ops
 use Rattle.bow_units.specs.declared.sizes.Extent.{Extent}
-use Rattle.bow_units.specs.declared.sizes.Geometry.{Geometry}
 use Rattle.bow_flat.specs.Flat.{Event, put}
 use Rattle.bow_queue.specs.declared.tickets.Ticket.{Ticket}
 use Rattle.bow_machine.specs.Requests.{Request, request_of, with_request, without_request, filled}
@@ -14,7 +13,7 @@ use Rattle.bow_machine.specs.Memory.{Memory}
 use Rattle.bow_machine.specs.Calls.{Reply}
 use Rattle.bow_machine.specs.Tasks.{Turn, Map, task_of}
 use Rattle.bow_machine.specs.Ready.{is_ready}
-use Rattle.bow_machine.specs.Steps.{Told, Idle, Moved, Wrote, Got, Answered, Step, extent_of, call_of}
+use Rattle.bow_machine.specs.Steps.{Told, Idle, Moved, Wrote, Got, Answered, extent_of, call_of}
 use Rattle.bow_machine.specs.Ends.{steps_left, most_steps}
 use Rattle.bow_machine.specs.MemoryLaws.{CanHaveIt}
 use Rattle.bow_machine.specs.Told.{ToldRow}
@@ -25,16 +24,15 @@ use Rattle.bow_machine.proofs.SoundLists.{found_waiting, own_tickets}
 use Rattle.bow_machine.proofs.SoundOpenings.{admit_keeps_sound}
 use Rattle.bow_history.specs.declared.items.Actor.{Actor}
 use Rattle.bow_history.specs.declared.items.Actor.TheVariants.{Lane, Worker, Command}
-use Rattle.bow_history.specs.declared.items.Item.{Item}
 use Rattle.bow_history.specs.Journal.{Plan}
-use Rattle.bow_history.specs.Sessions.{Session, Turned, Admits, Steps, turn_of, unknown, device_step, lane_of, item_of, item_of_turn, item_in}
-use Rattle.bow_history.specs.Sessions.{answered_in, told_to, after_step, after_turn_of, after_turn, IsFor, IsActor, IsAdmission, IsTurn}
+use Rattle.bow_history.specs.Sessions.{Session, Admits, Steps, turn_of, unknown, device_step, lane_of, item_of, item_of_turn}
+use Rattle.bow_history.specs.Sessions.{answered_in, told_to, after_step, after_turn_of, after_turn, IsFor, IsActor, IsAdmission}
 use Rattle.bow_history.specs.Sessions.{call_of_turn}
 use Rattle.bow_history.specs.Ready.{is_lane_ready, is_actor_ready}
 use Rattle.bow_history.specs.SoundSessions.{IsSoundSession}
-use Rattle.bow_history.specs.Ends.{HasAtMost, over_lanes, in_hand, untaken, turns_left, actor_in, TurnsGoDown, items_of, items_from}
+use Rattle.bow_history.specs.Ends.{HasAtMost, over_lanes, in_hand, untaken, turns_left, TurnsGoDown, items_of, items_from}
 use Rattle.bow_history.specs.Ends.{blocks_done, done_of_request, done_in_hand, items_of_lane, items_left, items_made, ItemsGoDown}
-use Rattle.bow_history.proofs.Lists.{none_some, one_of, of_push_here, serials_below}
+use Rattle.bow_history.proofs.Lists.{one_of, of_push_here, serials_below}
 use Rattle.bow_history.proofs.Seats.{new_ticket}
 use Rattle.bow_history.proofs.SoundTurns.{row, lane_has}
 

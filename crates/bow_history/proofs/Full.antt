@@ -1,36 +1,30 @@
 -- A write that finds no block was preceded by enough writes.
-use Rattle.std.proofs.Common.{ℕ, zero, suc, ◌+◌, ◌-◌, ◌*◌, ◌/◌, ◌<◌, ◌≤◌, ◌≡◌, ◌≢◌, ◌&&◌, ◌==◌, nat_lt, Bool, true, false, not, List, [], ◌∷◌, length, Some, None, arith, refl, sym, ap, ◌∙◌, subst, inl, inr}
+use Rattle.std.proofs.Common.{ℕ, zero, suc, ◌+◌, ◌-◌, ◌*◌, ◌/◌, ◌<◌, ◌≤◌, ◌≡◌, ◌≢◌, ◌&&◌, ◌==◌, nat_lt, Bool, true, false, not, List, length, Some, arith, refl, sym, ap, ◌∙◌, subst, inl, inr}
 use Rattle.std.specs.List.{sum_by, list_any}
 use Rattle.std.proofs.lemmas.Bool.{cases_eq, false≢true, eqb-true, eq-eqb, and_parts}
 use Rattle.std.proofs.lemmas.List.Sums.{sum_by-append}
 use Rattle.std.proofs.lemmas.Nat.{le-div}
-use Rattle.bow_units.specs.declared.requests.Op.TheVariants.{Write}
 use Rattle.bow_units.specs.declared.requests.Outcome.TheVariants as outcomes
-use Rattle.bow_units.specs.declared.requests.Phase.{Phase}
 use Rattle.bow_units.specs.declared.requests.Phase.TheVariants.{Checkpoint}
 use Rattle.bow_units.specs.declared.sizes.Extent.{Extent}
-use Rattle.bow_units.specs.declared.sizes.Geometry.{Geometry}
 use Rattle.bow_units.specs.declared.statuses.Kind.{Kind}
 use Rattle.bow_units.specs.declared.statuses.Kind.TheVariants.{Sector0, Current, Unchanged, Free, Changed, Backup, Saved}
-use Rattle.bow_log.specs.Generations.{Backup as LogBackup, Generation, StartsWith0, room}
+use Rattle.bow_log.specs.Generations.{Generation, room}
 use Rattle.bow_flat.specs.Flat.{Flat, count_below}
-use Rattle.bow_ranges.specs.Kinds.{kind_at, is_free, count_of}
-use Rattle.bow_machine.specs.Requests.{Request, refusal}
+use Rattle.bow_ranges.specs.Kinds.{kind_at, count_of}
+use Rattle.bow_machine.specs.Requests.{Request}
 use Rattle.bow_machine.specs.Memory.{Memory, Empty, may_be_written, reserved}
 use Rattle.bow_machine.specs.Tasks.{Worker, Answers, task_of, head}
 use Rattle.bow_machine.specs.MemoryIsSound.{is_touched}
 use Rattle.bow_machine.specs.MemoryLaws.{HasNoBlock}
 use Rattle.bow_machine.proofs.Consequences.{trimmed_is_kept}
 use Rattle.bow_machine.proofs.FormedHeads.{IsHead, head_is}
-use Rattle.bow_machine.proofs.MappedTests.{write_inside}
 use Rattle.bow_machine.proofs.SoundSpace.{no_space_is_exact}
 use Rattle.bow_machine.proofs.SoundLists.{own_tickets}
 use Rattle.bow_machine.specs.MemoryIsSound.{LogIsSound}
-use Rattle.bow_machine.specs.Ties.{copies_in}
 use Rattle.bow_history.proofs.Growth.{log_of_sound}
 use Rattle.bow_history.proofs.Rows.{passed_counts}
 use Rattle.bow_machine.proofs.Workers.{memory_is}
-use Rattle.bow_queue.specs.Extents.{is_on_device}
 use Rattle.bow_history.specs.Journal.{Plan, Place, writes, counts, next_writes, counting, size_in, blocks_in, MayBeFull}
 use Rattle.bow_history.specs.Lags.{Lags}
 use Rattle.bow_history.specs.Sessions.{Session}

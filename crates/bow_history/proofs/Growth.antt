@@ -1,6 +1,6 @@
 -- What each step of the device does to the table and the log, as the tally sees it: from what ties each touched block, and
 -- each entry, to a write that waits.
-use Rattle.std.proofs.Common.{ℕ, ◌+◌, ◌<◌, ◌≤◌, ◌≡◌, ◌≢◌, ◌⊎◌, ◌||◌, Bool, true, false, cond, List, [], ◌∷◌, filter, filter_map, length}
+use Rattle.std.proofs.Common.{ℕ, ◌+◌, ◌<◌, ◌≤◌, ◌≡◌, ◌≢◌, ◌⊎◌, ◌||◌, Bool, true, false, cond, List, [], ◌∷◌, filter, filter_map}
 use Rattle.std.proofs.Common.{Option, Some, None, arith, refl, sym, ap, ◌∙◌, subst, subst₂, inl, inr}
 use Rattle.std.specs.List.{list_any, cons_option}
 use Rattle.std.proofs.lemmas.Bool.{cases_eq, cases_Bool, false≢true, and_parts, or_right}
@@ -25,7 +25,7 @@ use Rattle.bow_machine.specs.Tasks.{Turn, task_of}
 use Rattle.bow_machine.specs.Steps.{call_of, step_of}
 use Rattle.bow_machine.specs.MemoryIsSound.{IsTable, is_touched, LogIsSound, LogIsHeld, MemoryIsSound}
 use Rattle.bow_machine.specs.MemoryLaws.{CanHaveIt}
-use Rattle.bow_machine.specs.Ties.{IsNextOf, IsLeftOf, SomeIsSaved}
+use Rattle.bow_machine.specs.Ties.{IsLeftOf, SomeIsSaved}
 use Rattle.bow_machine.proofs.SoundSteps.{step_keeps_sound}
 use Rattle.bow_machine.proofs.SoundTies.{saved_is_next, touched_is_left, covered_stays_touched, logs_go_on}
 use Rattle.bow_machine.proofs.SoundTies.{arming_is_untouched, checkpoint_follows}
@@ -145,9 +145,10 @@ module _ (g : Geometry) (m : Memory) (turn : Turn) (reply : Reply) (now : Conten
       | inl touched ↦ elim (saved_is_next g m turn reply now b s can below saved) [
         | inl was ↦ absurd (not_saved was)
         | inr next ↦
-            let passed : refusal g m.phase (Write next.extent next.payload) ≡ None = ap (refusal g m.phase) (sym next.op) ∙ next.passed in
-            let on = (and_parts _ _ (passed_counts g m.phase next.extent next.payload passed)).0 in
-            elim (still_touched next.batch.ticket next.write next.extent next.payload next.waits next.op on b below (left_holds next.extent next.write.done b next.from next.below) touched) [
+            let l = next.left in
+            let passed : refusal g m.phase (Write l.extent l.payload) ≡ None = ap (refusal g m.phase) (sym l.op) ∙ l.passed in
+            let on = (and_parts _ _ (passed_counts g m.phase l.extent l.payload passed)).0 in
+            elim (still_touched l.write.ticket l.write l.extent l.payload l.waits l.op on b below (left_holds l.extent l.write.done b l.from l.below) touched) [
               | inl same ↦ absurd (not_saved (sym same ∙ saved))
               | inr changed ↦ absurd (not_saved changed.0)
             ]

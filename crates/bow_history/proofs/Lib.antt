@@ -1,8 +1,6 @@
 pub mod Rows
 pub mod Leads
-pub mod Mapped
-pub mod Commanded
-pub mod Worked
+pub mod Answers
 pub mod Lists
 pub mod Seats
 pub mod Buffers

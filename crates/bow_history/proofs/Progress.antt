@@ -1,5 +1,5 @@
 -- Some actor is ready where a request is unanswered.
-use Rattle.std.proofs.Common.{ℕ, zero, suc, ◌+◌, ◌<◌, ◌≤◌, ◌≡◌, ◌≢◌, ◌⊎◌, ◌&&◌, ◌||◌, nat_lt, nat_le, not, Bool, true, false, List, [], ◌∷◌}
+use Rattle.std.proofs.Common.{ℕ, zero, suc, ◌<◌, ◌≤◌, ◌≡◌, ◌⊎◌, ◌&&◌, ◌||◌, nat_lt, nat_le, not, Bool, true, false, List, [], ◌∷◌}
 use Rattle.std.proofs.Common.{Option, Some, None, is_none, arith, refl, sym, ap, ◌∙◌, subst, inl, inr}
 use Rattle.std.proofs.lemmas.Bool.{cases_eq, cases_lt, false≢true, and_parts, leb-true}
 use Rattle.bow_units.specs.declared.requests.Op.{Op}
@@ -13,7 +13,7 @@ use Rattle.bow_history.specs.declared.items.Actor.TheVariants.{Lane, Worker, Com
 use Rattle.bow_history.specs.Journal.{Plan}
 use Rattle.bow_history.specs.Sessions.{Session}
 use Rattle.bow_history.specs.Ready.{is_from, is_lane_ready, is_actor_ready}
-use Rattle.bow_history.specs.SoundSessions.{IsSoundSession, SomeIsReady}
+use Rattle.bow_history.specs.SoundSessions.{SomeIsReady}
 use Rattle.bow_history.proofs.Lists.{none_some}
 
 own_low : (n : ℕ) → nat_le n n ≡ true
@@ -66,7 +66,7 @@ is_more a b h = grind (arith, h)
 
 -- ----------------------------------------------------------------------------------------------------------------
 
-from_member : (plan : Plan) (s : Session) (low lane n : ℕ) (op : Op) → lane < n → plan.request lane (s.number lane) ≡ Some op → is_from plan s low n ≡ true → low ≤ plan.section lane (s.number lane)
+pub from_member : (plan : Plan) (s : Session) (low lane n : ℕ) (op : Op) → lane < n → plan.request lane (s.number lane) ≡ Some op → is_from plan s low n ≡ true → low ≤ plan.section lane (s.number lane)
 from_member plan s low lane zero op below next h = absurd (omega (arith, below))
 from_member plan s low lane (suc n) op below next h =
     let parts = and_parts _ _ h in

@@ -1,6 +1,6 @@
 -- What a step of a request's turn tells, and which row of the table it is.
-use Rattle.std.proofs.Common.{ℕ, ◌+◌, ◌≤◌, ◌≡◌, ◌==◌, Bool, true, false, cond, List, [], ◌∷◌, length, take, Some, None, arith, refl, sym, ap, ◌∙◌, subst, inl, inr}
-use Rattle.std.proofs.lemmas.Bool.{false≢true, eqb-true, eq-eqb, and_parts, or_cases, or_right, leb-true}
+use Rattle.std.proofs.Common.{ℕ, ◌+◌, ◌≤◌, ◌≡◌, ◌==◌, Bool, true, false, cond, List, Some, None, arith, refl, sym, ◌∙◌, subst, inl, inr}
+use Rattle.std.proofs.lemmas.Bool.{false≢true, eqb-true, eq-eqb, and_parts, leb-true}
 use Rattle.bow_units.specs.declared.sizes.Geometry.{Geometry}
 use Rattle.bow_units.specs.declared.sizes.Extent.{Extent}
 use Rattle.bow_units.specs.declared.requests.Op.TheVariants.{Read, Write, Discard, Flush}
@@ -8,38 +8,14 @@ use Rattle.bow_units.specs.declared.requests.Phase.{Phase}
 use Rattle.bow_units.specs.declared.requests.Phase.TheVariants.{Trim, Arming, Checkpoint, Deciding, Committed}
 use Rattle.bow_units.specs.declared.requests.Outcome.{Outcome}
 use Rattle.bow_units.specs.declared.requests.Outcome.TheVariants as outcomes
-use Rattle.bow_units.specs.Magics.{HasMagic, log_magic, restoring_magic}
 use Rattle.bow_units.specs.Sizes.{IsInside}
 use Rattle.bow_queue.specs.Extents.{is_on_device}
-use Rattle.bow_machine.specs.Requests.{begins, has_magic, is_reserved, unsettled, refusal}
-use Rattle.bow_machine.proofs.MappedTests.{write_inside}
+use Rattle.bow_machine.specs.Requests.{is_reserved, unsettled, refusal}
+use Rattle.bow_machine.proofs.MappedTests.{magic_is, is_magic, write_inside}
 use Rattle.bow_history.specs.Journal.{Plan, Place, IsOpenPhase, IsBetween, IsReserved, IsProper, Row, counts}
 
 -- ----------------------------------------------------------------------------------------------------------------
 -- Magics.
-
-begins_taken : (xs ys : List ℕ) → take (length xs) ys ≡ xs → begins xs ys ≡ true
-begins_taken [] ys e = refl
-begins_taken (x ∷ xs) [] e = absurd (grind arith)
-begins_taken (x ∷ xs) (y ∷ ys) e =
-    let head : x ≡ y = cc e in
-    let rest : take (length xs) ys ≡ xs = cc e in
-    rw (eq-eqb x y head, begins_taken xs ys rest) refl
-
-taken_begins : (xs ys : List ℕ) → begins xs ys ≡ true → take (length xs) ys ≡ xs
-taken_begins [] ys e = grind arith
-taken_begins (x ∷ xs) [] e = absurd (false≢true e)
-taken_begins (x ∷ xs) (y ∷ ys) e =
-    let parts = and_parts _ _ e in
-    let head : x ≡ y = eqb-true x y parts.0 in
-    ap (λ z. z ∷ take (length xs) ys) (sym head) ∙ ap (λ zs. x ∷ zs) (taken_begins xs ys parts.1)
-
-magic_is : (bytes : List ℕ) → has_magic bytes ≡ true → HasMagic bytes
-magic_is bytes h = elim (or_cases (begins log_magic bytes) (begins restoring_magic bytes) h) [ inl is ↦ inl (taken_begins log_magic bytes is) | inr is ↦ inr (taken_begins restoring_magic bytes is) ]
-
-is_magic : (bytes : List ℕ) → HasMagic bytes → has_magic bytes ≡ true
-is_magic bytes (inl is) = rw (begins_taken log_magic bytes is) refl
-is_magic bytes (inr is) = or_right (begins log_magic bytes) (begins restoring_magic bytes) (begins_taken restoring_magic bytes is)
 
 pub reserved_is : (e : Extent) (p : List ℕ) → is_reserved e p ≡ true → IsReserved e p
 reserved_is e p h = let parts = and_parts _ _ h in (eqb-true e.first 0 parts.0, magic_is p parts.1)

@@ -1,6 +1,6 @@
 -- Each turn leads on, and so does each run of turns.
 use Rattle.std.specs.List.{AllByRecursion as Each}
-use Rattle.std.proofs.Common.{ℕ, ◌<◌, ◌≤◌, ◌≡◌, ◌⊎◌, ◌++◌, length, true, false, List, [], ◌∷◌, Option, Some, None, arith, refl, sym, ap, ◌∙◌, subst, inl, inr}
+use Rattle.std.proofs.Common.{ℕ, ◌<◌, ◌≤◌, ◌≡◌, ◌⊎◌, ◌++◌, length, List, [], ◌∷◌, Option, Some, None, arith, refl, sym, ap, ◌∙◌, subst, inl, inr}
 use Rattle.std.proofs.lemmas.Bool.{cases_eq}
 use Rattle.bow_units.specs.declared.requests.Op.{Op}
 use Rattle.bow_units.specs.declared.requests.Op.TheVariants as ops
@@ -16,44 +16,40 @@ use Rattle.bow_flat.specs.Flat.{Flat, put}
 use Rattle.bow_queue.specs.declared.tickets.Ticket.{Ticket}
 use Rattle.bow_guard.specs.Cuts.{Candidates}
 use Rattle.bow_machine.specs.Requests.{Request, request_of}
-use Rattle.bow_machine.specs.Memory.{Memory, Hand, Empty, Batching, Preparing, Committing, ReadsBlock0, WritesCurrent, WritesBackup}
-use Rattle.bow_machine.specs.Memory.{FlushesCopies, WritesFirstLog, FlushesFirstLog, FlushesAll, ReadsCurrent, WritesBlock0}
-use Rattle.bow_machine.specs.Memory.{FlushesDecision, place_of}
-use Rattle.bow_machine.specs.Calls.{Reply, Failed, Succeeded, Gave, DoesIt, Call}
-use Rattle.bow_machine.specs.Tasks.{Turn, Map, Worker, Command, Task, Waits, Answers, WritesBlock, ReadsBlock, FlushesFor, DiscardsFor, Acts, task_of, head}
-use Rattle.bow_machine.specs.Steps.{Told, Idle, Moved, Wrote, Got, Answered, Step, prepare_step, act_step, call_of, step_of}
+use Rattle.bow_machine.specs.Memory.{Memory, Hand, Empty, Batching, Preparing, Committing}
+use Rattle.bow_machine.specs.Calls.{Reply, Failed, Succeeded, DoesIt, Call}
+use Rattle.bow_machine.specs.Tasks.{Turn, Map, Worker, Command, task_of}
+use Rattle.bow_machine.specs.Steps.{Told, Idle, Moved, Wrote, Got, Answered, Step, call_of, step_of}
 use Rattle.bow_machine.specs.MemoryIsSound.{HandIsSound}
 use Rattle.bow_machine.specs.Standing.{IsStanding}
-use Rattle.bow_machine.proofs.Held.{IsHeld}
-use Rattle.bow_machine.proofs.Joined.{held}
 use Rattle.bow_machine.proofs.Blocks.{blocks_reply}
 use Rattle.bow_machine.proofs.Orders.{disk_by_reply}
-use Rattle.bow_machine.proofs.SoundCalls.{place_inside}
 use Rattle.bow_machine.proofs.SoundLists.{own_tickets}
 use Rattle.bow_guard.specs.Standing.{StandsFor}
 use Rattle.bow_machine.specs.Ahead.{IsLed}
 use Rattle.bow_machine.specs.Laws.{after_all}
 use Rattle.bow_machine.proofs.Ahead.{led_keeps, admit_is_led}
 use Rattle.bow_machine.proofs.Cuts.{machine_cut}
-use Rattle.bow_machine.proofs.Whole.{step_keeps, step_holds, admit_stands}
+use Rattle.bow_machine.proofs.Whole.{step_keeps, admit_stands}
 use Rattle.bow_machine.proofs.RequestLists.{of_push_found}
 use Rattle.bow_machine.proofs.MappedWrites.{put_here, put_there}
 use Rattle.bow_history.specs.declared.items.Actor.{Actor}
 use Rattle.bow_history.specs.declared.items.Actor.TheVariants as actors
 use Rattle.bow_history.specs.declared.items.Item.{Item}
 use Rattle.bow_history.specs.Journal.{Plan, Buffers, Place, beginning, Legal, MayBeFull, Row, if_counts, counted_after, answered}
-use Rattle.bow_history.specs.Lags.{Lags, IsArmed}
+use Rattle.bow_history.specs.Lags.{Lags}
+use Rattle.bow_machine.specs.Deeds.{deed_of}
+use Rattle.bow_machine.specs.MemoryLaws.{HasNoBlock}
+use Rattle.bow_machine.proofs.SoundSpace.{no_space_is_exact}
 use Rattle.bow_history.specs.Sessions.{Session, Turned, Admits, Steps, turn_of, unknown, device_step, item_of, told_to, after_step, after_turn_of, after_turn, item_of_turn, item_in, call_of_turn, IsAdmission, IsActor, IsFor, IsTurn, reply_in, call_in}
 use Rattle.bow_history.specs.Histories.{Disk, session_after, journal_of, with_items, DoesTurn, Runs}
 use Rattle.bow_history.specs.Fits.{done_of, done_in, HasTally, IsAt, AgreesThere, AgreesInHand, Agrees}
 use Rattle.bow_history.specs.Legality.{StartsUntouched, BeginningIsAt, RunsAreLegal, EndStands}
 use Rattle.bow_history.proofs.Growth.{log_of_sound, FreeAt, HasGrown, step_goes}
-use Rattle.bow_history.proofs.Leads.{DidAnswer, Leads, TaskLeads, for_it}
+use Rattle.bow_history.proofs.Answers.{lags_none}
+use Rattle.bow_history.proofs.Leads.{DidAnswer, Leads, step_leads}
 use Rattle.bow_history.proofs.Full.{may_be_full as full}
 use Rattle.bow_history.proofs.Lists.{none_some, one_of, of_push_here, serials_below}
-use Rattle.bow_history.proofs.Mapped.{map_leads}
-use Rattle.bow_history.proofs.Worked.{worker_leads}
-use Rattle.bow_history.proofs.Commanded.{command_leads}
 use Rattle.bow_history.proofs.Seats.{new_ticket, seated_push, in_turn_push}
 use Rattle.bow_history.proofs.Tally.{untouched_tallied, admitted_tallied, answered_tallied, grown}
 use Rattle.bow_history.proofs.Turns.{MaybeStep, Advances, OwesFor, advances, Holder, ha, answered_to}
@@ -63,30 +59,7 @@ use Rattle.bow_history.proofs.Turns.{MaybeStep, Advances, OwesFor, advances, Hol
 
 -- in Checkpoint the journal is in Checkpoint
 lags_checkpoint : (n : ℕ) (hand : Hand) (f j : Flat) → Lags n hand f j → f.phase ≡ Checkpoint → j.phase ≡ Checkpoint
-lags_checkpoint n hand f j lags at = go hand lags
-  where
-    same : f ≡ j → j.phase ≡ Checkpoint
-    same e = ap (λ (h : Flat). h.phase) (sym e) ∙ at
-
-    armed : IsArmed n f j → j.phase ≡ Checkpoint
-    armed a = absurd (let clash : Arming ≡ Checkpoint = sym (ap (λ (h : Flat). h.phase) a.2) ∙ at in grind arith)
-
-    go : (hand : Hand) → Lags n hand f j → j.phase ≡ Checkpoint
-    go Empty l = same l
-    go (Batching b) l = same l
-    go (Preparing t c b ReadsBlock0) l = same l
-    go (Preparing t c b (WritesCurrent x)) l = same l
-    go (Preparing t c b (WritesBackup x)) l = same l
-    go (Preparing t c b (FlushesCopies x)) l = same l
-    go (Preparing t c b WritesFirstLog) (inl l) = same l
-    go (Preparing t c b WritesFirstLog) (inr a) = armed a
-    go (Preparing t c b FlushesFirstLog) (inl l) = same l
-    go (Preparing t c b FlushesFirstLog) (inr a) = armed a
-    go (Committing t again FlushesAll) l = same l
-    go (Committing t again ReadsCurrent) l = same l
-    go (Committing t again (WritesBlock0 x)) l = same l
-    go (Committing t false FlushesDecision) l = l.0
-    go (Committing t true FlushesDecision) l = same l
+lags_checkpoint n hand f j lags at = let same = lags_none n (deed_of hand) f j Checkpoint at (λ e. grind arith) (λ e. grind arith) lags in ap (λ (h : Flat). h.phase) (sym same) ∙ at
 
 -- a prepare's Done, or an answer after which its write counts
 counted_cases : (g : Geometry) (asked : Op) (outcome : Outcome) (counted : List Op) → ((asked ≡ ops.Prepare) × (outcome ≡ outcomes.Done)) ⊎ (counted_after g asked outcome counted ≡ if_counts g (Some asked) ++ counted)
@@ -112,8 +85,8 @@ module _ (plan : Plan) (s : Session) (d e : Disk) (p : Place) (k : IsAt plan s d
   abbrev real : Step
   real = step_of plan.sizes d.now s.memory (task_of plan.sizes s.memory turn) reply
 
-  may_be_full : (r : Request) → s.memory.phase ≡ Checkpoint → s.memory.hand ≡ Empty → head plan.sizes s.memory ≡ Some r → task_of plan.sizes s.memory Worker ≡ Answers r (outcomes.NoSpace r.done) → MayBeFull plan p
-  may_be_full r at empty first is = full plan s d p k at empty r first is
+  may_be_full : (r : Request) → HasNoBlock plan.sizes s.memory r → MayBeFull plan p
+  may_be_full r none = full plan s d p k none.phase none.hand r none.is_head ((no_space_is_exact plan.sizes s.memory r k.stands.sound).1 none)
 
   -- the call, if there was one, did not fail
   abbrev fine : Type 0
@@ -125,19 +98,8 @@ module _ (plan : Plan) (s : Session) (d e : Disk) (p : Place) (k : IsAt plan s d
   led_step : fine → IsLed plan.sizes s.memory d.now d.may k.flat → IsLed plan.sizes real.memory e.now e.may (after_all plan.sizes.blocks real.events k.flat)
   led_step is led = led_keeps plan.sizes s.memory turn reply d.now e.now d.may e.may k.flat k.stands led is does
 
-  now_held : IsHeld plan.sizes s.memory d.now d.may k.flat
-  now_held = held plan.sizes s.memory d.now d.may k.flat k.stands
-
-  leads : Leads plan s.memory e.now e.may k.flat p reply real real.told
-  leads = by_turn turn reply (step_holds plan.sizes s.memory turn reply d.now e.now d.may e.may k.flat now_held does) does
-    where
-      one_block : (b : ℕ) → b < plan.sizes.blocks → length (d.now (place_of s.memory b)) ≡ plan.sizes.block_size
-      one_block b on = k.stands.blocks (place_of s.memory b) (place_inside plan.sizes s.memory k.stands.sound b on)
-
-      by_turn : (turn : Turn) → TaskLeads plan s.memory d.now e.now d.may e.may k.flat p (task_of plan.sizes s.memory turn)
-      by_turn (Map ticket) = map_leads plan s.memory d.now e.now d.may e.may k.flat p now_held k.lags one_block ticket
-      by_turn Worker = worker_leads plan s.memory d.now e.now d.may e.may k.flat p now_held k.lags may_be_full
-      by_turn Command = command_leads plan s.memory d.now e.now d.may e.may k.flat p now_held k.lags (for_it plan.sizes s.memory s.memory.hand s.memory.log k.stands.sound.in_hand)
+  leads : Leads plan s.memory e k.flat p real real.told
+  leads = step_leads plan s.memory d e k.flat p k.stands k.lags may_be_full turn reply does
 
   goes : FreeAt plan real.memory.kinds real.memory.phase real.memory.log ⊎ HasGrown plan.sizes s.memory real.memory.kinds real.memory.phase real.memory.log
   goes = step_goes plan s.memory turn reply d.now k.stands.sound (blocks_reply plan.sizes s.memory turn reply d.now e.now d.may e.may k.stands.sound k.stands.blocks does).0
@@ -182,8 +144,8 @@ module _ (plan : Plan) (s : Session) (d e : Disk) (p : Place) (k : IsAt plan s d
       go (inl arms) = let clash : Trim ≡ Checkpoint = sym arms.1.1.0.0 ∙ j_at in absurd (grind arith)
       go (inr prepares) = let clash : Arming ≡ Checkpoint = sym prepares.0 ∙ j_at in absurd (grind arith)
 
-  answer_tally : (t : Ticket) (op : Op) (outcome : Outcome) (w : DidAnswer plan s.memory e.now e.may k.flat p reply real t op outcome)
-      → HasTally plan real.memory.kinds (put s.hand (ha plan s d e p k reply real fine stands_after led_step t op outcome w).lane None) (answered_to plan s d e p k reply real fine stands_after led_step t op outcome w) real.memory.phase real.memory.log
+  answer_tally : (t : Ticket) (op : Op) (outcome : Outcome) (w : DidAnswer plan s.memory e k.flat p real t op outcome)
+      → HasTally plan real.memory.kinds (put s.hand (ha plan s d e p k real fine stands_after led_step t op outcome w).lane None) (answered_to plan s d e p k real fine stands_after led_step t op outcome w) real.memory.phase real.memory.log
   answer_tally t op outcome w = elim (counted_cases plan.sizes h.asked outcome p.counted) [
     | inl (is_prepare, is_done) ↦ elim goes [
       | inl free ↦ free (put s.hand h.lane None) (answered plan h.lane h.asked outcome w.flat p)
@@ -192,24 +154,24 @@ module _ (plan : Plan) (s : Session) (d e : Disk) (p : Place) (k : IsAt plan s d
     | inr counted ↦ after_answer h.lane h.asked outcome w.flat (ap (plan.request h.lane) (k.number h.lane) ∙ h.next) counted real.memory.phase real.memory.log went_on
   ]
     where
-      h : Holder plan s d e p k reply real fine stands_after led_step t w.request
-      h = ha plan s d e p k reply real fine stands_after led_step t op outcome w
+      h : Holder plan s d e p k real fine stands_after led_step t w.request
+      h = ha plan s d e p k real fine stands_after led_step t op outcome w
 
-  owes_for : (told : Told) (w : Leads plan s.memory e.now e.may k.flat p reply real told) → OwesFor plan s d e p k reply real fine stands_after led_step told w
+  owes_for : (told : Told) (w : Leads plan s.memory e k.flat p real told) → OwesFor plan s d e p k real fine stands_after led_step told w
   owes_for Idle w = record { tally = went_on }
   owes_for Moved w = record { tally = went_on }
   owes_for (Wrote t i) w = record { tally = same_place _ _ real.memory.phase real.memory.log went_on }
   owes_for (Got t i) w = record { tally = same_place _ _ real.memory.phase real.memory.log went_on }
   owes_for (Answered t op outcome) w = record { tally = answer_tally t op outcome w }
 
-  owes : OwesFor plan s d e p k reply real fine stands_after led_step real.told leads
+  owes : OwesFor plan s d e p k real fine stands_after led_step real.told leads
   owes = owes_for real.told leads
 
   pub device_advances : Advances plan s (after_step plan s (device_step plan.sizes s.memory turn reply)) e (item_of plan s (device_step plan.sizes s.memory turn reply).told) p d k.flat fine
   device_advances =
       let same = disk_by_reply plan.sizes s.memory turn reply d.now unknown in
       subst (λ m. Advances plan s (told_to plan (record s { memory = m }) (device_step plan.sizes s.memory turn reply).told) e (item_of plan s (device_step plan.sizes s.memory turn reply).told) p d k.flat fine) same.0
-      (subst (λ told. Advances plan s (told_to plan (record s { memory = real.memory }) told) e (item_of plan s told) p d k.flat fine) same.1 (advances plan s d e p k reply real fine stands_after led_step real.told leads owes))
+      (subst (λ told. Advances plan s (told_to plan (record s { memory = real.memory }) told) e (item_of plan s told) p d k.flat fine) same.1 (advances plan s d e p k real fine stands_after led_step real.told leads owes))
 
 -- ----------------------------------------------------------------------------------------------------------------
 -- A request is taken in.

@@ -1,18 +1,17 @@
 -- Each turn goes on from the section of its item.
-use Rattle.std.proofs.Common.{ℕ, suc, ◌<◌, ◌≤◌, ◌≡◌, true, false, cond, List, [], ◌∷◌, Option, Some, None, arith, refl, sym, ap, ◌∙◌, subst, inl, inr, nat_lt}
+use Rattle.std.proofs.Common.{ℕ, suc, ◌≤◌, ◌≡◌, List, Option, Some, None, arith, sym, ap, ◌∙◌, subst, inl, inr}
 use Rattle.std.proofs.lemmas.Bool.{cases_eq}
 use Rattle.bow_units.specs.declared.requests.Op.{Op}
 use Rattle.bow_flat.specs.Flat.{put}
 use Rattle.bow_queue.specs.declared.tickets.Ticket.{Ticket}
-use Rattle.bow_machine.specs.Requests.{Request, request_of}
 use Rattle.bow_machine.specs.Memory.{Memory}
 use Rattle.bow_machine.specs.Tasks.{Turn}
 use Rattle.bow_machine.specs.Steps.{Told, Idle, Moved, Wrote, Got, Answered}
 use Rattle.bow_machine.proofs.MappedWrites.{put_here, put_there}
 use Rattle.bow_history.specs.declared.items.Item.{Item}
-use Rattle.bow_history.specs.Journal.{Plan, Place}
+use Rattle.bow_history.specs.Journal.{Plan}
 use Rattle.bow_history.specs.Sessions.{Session, Turned, Admits, Steps, turn_of, device_step, lane_of, item_of, item_of_turn, item_in, answered_in, told_to, after_turn_of, after_turn, IsTurn, IsPresent}
-use Rattle.bow_history.specs.Histories.{Disk, journal_of, with_items}
+use Rattle.bow_history.specs.Histories.{with_items}
 use Rattle.bow_history.specs.Fits.{AreSeated}
 use Rattle.bow_history.specs.Sections.{section_of, BySections, SectionsRise, InSections, IsFrom}
 use Rattle.bow_history.proofs.Lists.{none_some}

@@ -1,19 +1,15 @@
 -- A session whose steps keep their contract is a run of the machine.
-use Rattle.std.proofs.Common.{subst₂, ℕ, ◌+◌, ◌-◌, ◌^◌, ◌≤◌, ◌≡◌, ◌++◌, min, max, Bool, true, false, List, [], ◌∷◌, map, Option, Some, None, arith, refl, sym, ap, ◌∙◌, subst, inl, inr, ◌⊎◌, cond}
-use Rattle.std.proofs.lemmas.Bool.{and_parts, false≢true, ltb-true}
+use Rattle.std.proofs.Common.{ℕ, ◌+◌, ◌-◌, ◌^◌, ◌≤◌, ◌≡◌, ◌++◌, min, max, Bool, true, false, List, [], ◌∷◌, map, Option, Some, None, arith, refl, sym, ap, ◌∙◌, subst, inl, inr, ◌⊎◌, cond}
+use Rattle.std.proofs.lemmas.Bool.{false≢true}
 use Rattle.std.specs.List.{sum_by}
-use Rattle.std.specs.Option.{option_map}
 use Rattle.std.proofs.lemmas.List.Sums.{sum_by-append}
-use Rattle.bow_units.specs.declared.sizes.Geometry.{Geometry}
 use Rattle.bow_queue.specs.declared.tickets.Ticket.{Ticket}
-use Rattle.bow_machine.specs.Memory.{Memory}
-use Rattle.bow_machine.specs.MemoryIsSound.{MemoryIsSound}
 use Rattle.bow_machine.specs.Calls.{Call, Reply, Failed, Succeeded, Gave}
 use Rattle.bow_machine.specs.Tasks.{Turn, task_of}
-use Rattle.bow_machine.specs.Steps.{Told, Idle, Moved, Wrote, Got, Answered, Step, call_of}
+use Rattle.bow_machine.specs.Steps.{Told, Idle, Moved, Wrote, Got, Answered, call_of}
 use Rattle.bow_history.specs.declared.items.Item.{Item}
 use Rattle.bow_history.specs.Journal.{Plan, beginning, Legal}
-use Rattle.bow_history.specs.Sessions.{Session, begun, Turned, Admits, Steps, turn_of, unknown, device_step, after_step, told_to, reply_in, taken_in, item_of, item_of_turn, item_in, call_of_turn, call_in, after_turn_of, after_turn, IsActor, IsTurn}
+use Rattle.bow_history.specs.Sessions.{Session, begun, Turned, Admits, Steps, turn_of, unknown, device_step, reply_in, item_of, item_of_turn, item_in, call_of_turn, call_in, after_turn, IsTurn}
 use Rattle.bow_history.specs.Histories.{Disk, session_after, journal_of, with_item, with_items, calls_in, calls_after, moments_of, DoesTurn, Runs}
 use Rattle.bow_history.specs.Promises.{Core, Did, held, View, start_of, state_of, more, items, TurnGoes, RunsOver, IsSession, LoadedIsSession, TurnsKeepSession, IsPlayed, SessionsAreLegal, faults_in, is_fault}
 use Rattle.bow_units.specs.declared.requests.Outcome.{Outcome}

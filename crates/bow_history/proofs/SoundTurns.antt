@@ -1,20 +1,17 @@
 -- Each turn keeps a session sound, over any disk; and its journal goes in order and section by section.
 use Rattle.std.specs.List.{AllByRecursion as Each}
-use Rattle.std.proofs.Common.{ℕ, suc, ◌+◌, ◌*◌, ◌<◌, ◌≤◌, ◌≡◌, ◌≢◌, List, [], ◌∷◌, ◌++◌, length, Option, Some, None, arith, refl, sym, ap, ◌∙◌}
-use Rattle.std.proofs.Common.{cond, subst, inl, inr}
+use Rattle.std.proofs.Common.{ℕ, suc, ◌+◌, ◌*◌, ◌≡◌, List, [], ◌∷◌, length, Option, Some, None, arith, refl, sym, ap, ◌∙◌}
+use Rattle.std.proofs.Common.{cond, subst}
 use Rattle.bow_units.specs.declared.requests.Op.{Op}
 use Rattle.bow_units.specs.declared.requests.Op.TheVariants as ops
-use Rattle.bow_units.specs.declared.requests.Outcome.{Outcome}
-use Rattle.bow_units.specs.declared.sizes.Extent.{Extent}
-use Rattle.bow_units.specs.declared.sizes.Geometry.{Geometry}
 use Rattle.bow_flat.specs.Flat.{Event, put}
 use Rattle.bow_queue.specs.declared.tickets.Ticket.{Ticket}
-use Rattle.bow_machine.specs.Requests.{Request, request_of, with_request, without_request, filled}
+use Rattle.bow_machine.specs.Requests.{Request, request_of, filled}
 use Rattle.bow_machine.specs.Memory.{Memory}
 use Rattle.bow_machine.specs.Calls.{Reply}
 use Rattle.bow_machine.specs.Tasks.{Turn, task_of}
 use Rattle.bow_machine.specs.Steps.{Told, Idle, Moved, Wrote, Got, Answered, Step, call_of}
-use Rattle.bow_machine.specs.MemoryIsSound.{IsTransfer, IsAdmissible, IsWaiting, MemoryIsSound}
+use Rattle.bow_machine.specs.MemoryIsSound.{IsWaiting, MemoryIsSound}
 use Rattle.bow_machine.specs.MemoryLaws.{CanHaveIt}
 use Rattle.bow_machine.specs.Told.{IsGot, ToldRow}
 use Rattle.bow_machine.proofs.RequestLists.{same_itself, found_ticket, of_with}
@@ -23,20 +20,19 @@ use Rattle.bow_machine.proofs.SoundOpenings.{admit_keeps_sound}
 use Rattle.bow_machine.proofs.SoundSteps.{step_keeps_sound}
 use Rattle.bow_machine.proofs.SoundTold.{steps_tell_so}
 use Rattle.bow_history.specs.declared.items.Item.{Item}
-use Rattle.bow_history.specs.declared.items.Item.TheVariants as items
 use Rattle.bow_history.specs.Journal.{Plan}
 use Rattle.bow_history.specs.Sessions.{Session, begun, Turned, Admits, Steps, turn_of, unknown, device_step, lane_of, item_of, item_of_turn}
-use Rattle.bow_history.specs.Sessions.{item_in, answered_in, told_to, after_step, after_turn_of, after_turn, IsFor, IsAdmission, IsTurn}
+use Rattle.bow_history.specs.Sessions.{item_in, told_to, after_step, after_turn_of, after_turn, IsFor, IsTurn}
 use Rattle.bow_history.specs.Sessions.{call_of_turn}
 use Rattle.bow_history.specs.Histories.{session_after, journal_of, with_items}
 use Rattle.bow_history.specs.Fits.{AreSeated}
-use Rattle.bow_history.specs.Sections.{SectionsRise, InSections, IsFrom, BySections}
-use Rattle.bow_history.specs.SoundSessions.{IsSoundSession, BeginningIsSound, TurnsKeepSound, MayRun, RunsKeepSound}
-use Rattle.bow_history.specs.Complete.{AreInOrder, RunsGoInOrder, IsOver, OverIsEmpty, RunsAreComplete}
-use Rattle.bow_history.proofs.Lists.{none_some, one_of, serials_below}
-use Rattle.bow_history.proofs.Seats.{lane_is, new_ticket, seated_push, seated_with, seated_without}
+use Rattle.bow_history.specs.Sections.{SectionsRise, InSections, IsFrom}
+use Rattle.bow_history.specs.SoundSessions.{IsSoundSession, BeginningIsSound, TurnsKeepSound, RunsKeepSound}
+use Rattle.bow_history.specs.Complete.{AreInOrder, RunsGoInOrder, OverIsEmpty, RunsAreComplete}
+use Rattle.bow_history.proofs.Lists.{none_some, serials_below}
+use Rattle.bow_history.proofs.Seats.{lane_is, seated_push, seated_with, seated_without}
 use Rattle.bow_history.proofs.Sectioned.{low_after, GoesOn, turn_goes, then_sections}
-use Rattle.bow_history.proofs.Turns.{IsInHand}
+use Rattle.bow_history.proofs.Turns.{IsInHand, for_buffer}
 
 -- ----------------------------------------------------------------------------------------------------------------
 -- A step of the device.
@@ -73,8 +69,11 @@ module _ (plan : Plan) (s : Session) (k : IsSoundSession plan s) (turn : Turn) (
     -- a read goes on with a buffer of its length
     read_for : (i : ℕ) (events : List Event) (after : List Request) → Each (IsWaiting plan.sizes) after → (w : IsGot plan.sizes s.memory r i events after)
         → (asked : Op) → IsFor plan.sizes asked r.op → IsFor plan.sizes asked (ops.Read w.extent (filled plan.sizes.block_size w.payload i w.content))
-    read_for i events after each w asked is = go asked (subst (IsFor plan.sizes asked) w.op is)
+    read_for i events after each w asked is = for_buffer plan.sizes asked w.extent w.payload new_buffer whole (subst (IsFor plan.sizes asked) w.op is)
       where
+        new_buffer : List ℕ
+        new_buffer = filled plan.sizes.block_size w.payload i w.content
+
         new : Request
         new = record r { op = ops.Read w.extent (filled plan.sizes.block_size w.payload i w.content); done = r.done + 1 }
 
@@ -83,14 +82,6 @@ module _ (plan : Plan) (s : Session) (k : IsSoundSession plan s) (turn : Turn) (
 
         whole : length (filled plan.sizes.block_size w.payload i w.content) ≡ w.extent.count * plan.sizes.block_size
         whole = (found_waiting plan.sizes r.ticket after new each found).op.whole
-
-        go : (asked : Op) → IsFor plan.sizes asked (ops.Read w.extent w.payload) → IsFor plan.sizes asked (ops.Read w.extent (filled plan.sizes.block_size w.payload i w.content))
-        go (ops.Read x q) is = (is.0, whole ∙ ap (λ (y : Extent). y.count * plan.sizes.block_size) is.0)
-        go (ops.Write x q) is = absurd (let clash : ops.Read w.extent w.payload ≡ ops.Write x q = is in grind arith)
-        go (ops.Discard x) is = absurd (let clash : ops.Read w.extent w.payload ≡ ops.Discard x = is in grind arith)
-        go ops.Flush is = absurd (let clash : ops.Read w.extent w.payload ≡ ops.Flush = is in grind arith)
-        go ops.Prepare is = absurd (let clash : ops.Read w.extent w.payload ≡ ops.Prepare = is in grind arith)
-        go ops.Commit is = absurd (let clash : ops.Read w.extent w.payload ≡ ops.Commit = is in grind arith)
 
   told_seated : (told : Told) (events : List Event) (m : Memory) → Each (IsWaiting plan.sizes) m.requests
       → ToldRow plan.sizes unknown s.memory told events m.requests → SeatedTo told m

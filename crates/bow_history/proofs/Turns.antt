@@ -4,18 +4,16 @@ use Rattle.std.proofs.lemmas.Bool.{cases_eq, cases_lt, cases_Bool, false≢true}
 use Rattle.bow_units.specs.declared.requests.Op.{Op}
 use Rattle.bow_units.specs.declared.requests.Op.TheVariants as ops
 use Rattle.bow_units.specs.declared.requests.Outcome.{Outcome}
-use Rattle.bow_units.specs.declared.requests.Outcome.TheVariants as outcomes
 use Rattle.bow_units.specs.declared.sizes.Extent.{Extent}
 use Rattle.bow_units.specs.declared.sizes.Geometry.{Geometry}
 use Rattle.bow_flat.specs.Flat.{Flat, Allows, put, after, block_at}
 use Rattle.bow_flat.specs.Flat.Event.{Writes, Reads}
 use Rattle.bow_queue.specs.declared.tickets.Ticket.{Ticket}
 use Rattle.bow_ranges.specs.Kinds.{holds}
-use Rattle.bow_machine.specs.Requests.{Request, request_of, with_request, without_request, filled}
+use Rattle.bow_machine.specs.Requests.{Request, request_of, with_request, without_request, filled, refusal}
 use Rattle.bow_machine.specs.Memory.{Memory}
 use Rattle.bow_machine.specs.Tasks.{is_waiting}
-use Rattle.bow_machine.specs.Calls.{Reply}
-use Rattle.bow_machine.specs.Steps.{Told, Idle, Moved, Wrote, Got, Answered, Step, payload_of, with_read}
+use Rattle.bow_machine.specs.Steps.{Told, Idle, Moved, Wrote, Got, Answered, Step, payload_of}
 use Rattle.bow_machine.proofs.RequestLists.{found_ticket, ticket_cases, of_without, of_with_other, of_with}
 use Rattle.bow_machine.proofs.MappedWrites.{put_here, put_there}
 use Rattle.bow_machine.proofs.MappedTests.{write_inside}
@@ -23,7 +21,6 @@ use Rattle.bow_machine.specs.Ahead.{IsLed}
 use Rattle.bow_machine.specs.Laws.{after_all}
 use Rattle.bow_machine.specs.Standing.{IsStanding}
 use Rattle.bow_machine.proofs.Forward.{deciding_stays_led}
-use Rattle.bow_machine.proofs.Joined.{standing}
 use Rattle.bow_history.specs.declared.items.Item.{Item}
 use Rattle.bow_history.specs.declared.items.Item.TheVariants as items
 use Rattle.bow_history.specs.Journal.{Plan, Buffers, Place, IsOpenPhase, IsAlone, writes, ReadRow, Row, block_done, answered, ItemStep}
@@ -81,6 +78,15 @@ for_read g ops.Flush e payload is = absurd (let clash : ops.Read e payload ≡ o
 for_read g ops.Prepare e payload is = absurd (let clash : ops.Read e payload ≡ ops.Prepare = is in grind arith)
 for_read g ops.Commit e payload is = absurd (let clash : ops.Read e payload ≡ ops.Commit = is in grind arith)
 
+-- a read with another buffer of its length is for the same
+pub for_buffer : (g : Geometry) (asked : Op) (e : Extent) (old new : List ℕ) → length new ≡ e.count * g.block_size → IsFor g asked (ops.Read e old) → IsFor g asked (ops.Read e new)
+for_buffer g (ops.Read x q) e old new long is = (is.0, long ∙ ap (λ (y : Extent). y.count * g.block_size) is.0)
+for_buffer g (ops.Write x q) e old new long is = absurd (let clash : ops.Read e old ≡ ops.Write x q = is in grind arith)
+for_buffer g (ops.Discard x) e old new long is = absurd (let clash : ops.Read e old ≡ ops.Discard x = is in grind arith)
+for_buffer g ops.Flush e old new long is = absurd (let clash : ops.Read e old ≡ ops.Flush = is in grind arith)
+for_buffer g ops.Prepare e old new long is = absurd (let clash : ops.Read e old ≡ ops.Prepare = is in grind arith)
+for_buffer g ops.Commit e old new long is = absurd (let clash : ops.Read e old ≡ ops.Commit = is in grind arith)
+
 -- it writes the same blocks
 pub same_writes : (g : Geometry) (asked op : Op) (b : ℕ) → IsFor g asked op → writes op b ≡ writes asked b
 same_writes g (ops.Read x q) (ops.Read y p) b is = refl
@@ -115,7 +121,7 @@ holds_next e k below = grind (arith, below)
 -- ----------------------------------------------------------------------------------------------------------------
 -- A step of the device.
 
-module _ (plan : Plan) (s : Session) (d e : Disk) (p : Place) (k : IsAt plan s d p) (reply : Reply) (step : Step) (fine : Type 0)
+module _ (plan : Plan) (s : Session) (d e : Disk) (p : Place) (k : IsAt plan s d p) (step : Step) (fine : Type 0)
     (keeps : IsStanding plan.sizes step.memory e.now e.may (after_all plan.sizes.blocks step.events k.flat))
     (led_step : fine → IsLed plan.sizes s.memory d.now d.may k.flat → IsLed plan.sizes step.memory e.now e.may (after_all plan.sizes.blocks step.events k.flat)) where
   abbrev pub n : ℕ
@@ -163,17 +169,17 @@ module _ (plan : Plan) (s : Session) (d e : Disk) (p : Place) (k : IsAt plan s d
   Goal told = Advances plan s (told_to plan went told) e (item_of plan s told) p d k.flat fine
 
   -- what was led stays led
-  settled_led : (j : Flat) (st : Settles plan m e.now e.may k.flat p reply step j) → fine → IsLed plan.sizes s.memory d.now d.may k.flat → IsLed plan.sizes step.memory e.now e.may st.flat
+  settled_led : (j : Flat) (st : Settles plan m e k.flat p step j) → fine → IsLed plan.sizes s.memory d.now d.may k.flat → IsLed plan.sizes step.memory e.now e.may st.flat
   settled_led j st is led = elim (st.way) [
     | inl same ↦ subst (IsLed plan.sizes step.memory e.now e.may) (sym same) (led_step is led)
     | inr (at, same) ↦ subst (IsLed plan.sizes step.memory e.now e.may) (sym same) (deciding_stays_led plan.sizes step.memory e.now e.may (after_all n step.events k.flat) keeps at (led_step is led))
   ]
 
   -- a step that tells nothing
-  abbrev quiet : step.memory.requests ≡ m.requests → Settles plan m e.now e.may k.flat p reply step p.flat → Owes p s.hand → IsAt plan went e p
+  abbrev quiet : step.memory.requests ≡ m.requests → Settles plan m e k.flat p step p.flat → Owes p s.hand → IsAt plan went e p
   quiet same settles owes = record {
     flat = settles.flat;
-    stands = standing plan.sizes step.memory e.now e.may settles.flat keeps.sound keeps.blocks settles.stands;
+    stands = settles.stands;
     lags = settles.lags;
     number = k.number;
     done = λ lane. k.done lane ∙ ap (λ rs. done_in rs (s.hand lane)) (sym same);
@@ -192,11 +198,11 @@ module _ (plan : Plan) (s : Session) (d e : Disk) (p : Place) (k : IsAt plan s d
     was : request_of r.ticket m.requests ≡ Some old
     was = ap (λ u. request_of u m.requests) mine ∙ waits
 
-    abbrev goes_on : (h : Holder t old) (j : Flat) → Settles plan m e.now e.may k.flat p reply step j → Owes (record p { flat = j; done = put p.done h.lane (suc (p.done h.lane)) }) s.hand
+    abbrev goes_on : (h : Holder t old) (j : Flat) → Settles plan m e k.flat p step j → Owes (record p { flat = j; done = put p.done h.lane (suc (p.done h.lane)) }) s.hand
         → IsAt plan went e (record p { flat = j; done = put p.done h.lane (suc (p.done h.lane)) })
     goes_on h j settles owes = record {
       flat = settles.flat;
-      stands = standing plan.sizes step.memory e.now e.may settles.flat keeps.sound keeps.blocks settles.stands;
+      stands = settles.stands;
       lags = settles.lags;
       number = k.number;
       done = done;
@@ -276,34 +282,41 @@ module _ (plan : Plan) (s : Session) (d e : Disk) (p : Place) (k : IsAt plan s d
   -- ----------------------------------------------------------------------------------------------------------------
   -- By what was told.
 
-  module _ (t : Ticket) (i : ℕ) (w : DidWrite plan m e.now e.may k.flat p reply step t i) where
+  module _ (t : Ticket) (i : ℕ) (w : DidWrite plan m e k.flat p step t i) where
     abbrev pub h : Holder t w.request
     h = holder t w.request w.waits
 
+    abbrev extent : Extent
+    extent = w.row.extent
+
+    abbrev payload : List ℕ
+    payload = w.row.payload
+
     abbrev pub wrote_to : Place
-    wrote_to = record p { flat = after n (Writes (w.extent.first + w.request.done) (block_at size w.payload w.request.done)) p.flat; done = put p.done h.lane (suc (p.done h.lane)) }
+    wrote_to = record p { flat = after n (Writes (extent.first + i) (block_at size payload i)) p.flat; done = put p.done h.lane (suc (p.done h.lane)) }
 
-    asked_write : h.asked ≡ ops.Write w.extent w.payload
-    asked_write = for_write plan.sizes h.asked w.extent w.payload (subst (IsFor plan.sizes h.asked) w.op h.is)
+    next_write : plan.request h.lane (s.number h.lane) ≡ Some (ops.Write extent payload)
+    next_write = h.next ∙ ap Some (for_write plan.sizes h.asked extent payload (subst (IsFor plan.sizes h.asked) w.row.op h.is))
 
-    next_write : plan.request h.lane (s.number h.lane) ≡ Some (ops.Write w.extent w.payload)
-    next_write = h.next ∙ ap Some asked_write
+    passed : refusal plan.sizes m.phase (ops.Write extent payload) ≡ None
+    passed = ap (refusal plan.sizes m.phase) (sym w.row.op) ∙ w.row.passed
 
-    block_told : first_in (plan.request h.lane (s.number h.lane)) + i ≡ w.extent.first + w.request.done
-    block_told = ap (λ o. first_in o + i) next_write ∙ ap (λ k. w.extent.first + k) w.index
+    -- the block is the lane's next one
+    is_next : i ≡ p.done h.lane
+    is_next = w.row.next ∙ sym h.done
 
     wrote_item : (buffer : Buffers) → ItemStep plan buffer (items.Wrote h.lane (s.number h.lane) (first_in (plan.request h.lane (s.number h.lane)) + i)) p wrote_to
-    wrote_item buffer = subst (λ b. ItemStep plan buffer (items.Wrote h.lane (s.number h.lane) b) p wrote_to) (sym block_told) (
+    wrote_item buffer = subst (λ o. ItemStep plan buffer (items.Wrote h.lane (s.number h.lane) (first_in o + i)) p wrote_to) (sym next_write) (
       sym (k.number h.lane),
-      ops.Write w.extent w.payload,
+      ops.Write extent payload,
       next_write,
       (
-        proper_write plan.sizes m.phase w.extent w.payload w.passed,
-        subst IsOpenPhase w.same (open_phase m.phase (write_inside plan.sizes m.phase w.extent w.payload w.passed).2),
-        omega (arith, w.below, h.done),
-        ap (λ k. w.extent.first + k) (sym h.done),
-        alone t w.request w.extent w.payload h w.waits w.op w.first (w.extent.first + w.request.done) (holds_next w.extent w.request.done w.below),
-        ap (λ k. block_done plan h.lane (Writes (w.extent.first + w.request.done) (block_at size w.payload k)) p) (sym h.done),
+        proper_write plan.sizes m.phase extent payload passed,
+        subst IsOpenPhase w.same (open_phase m.phase (write_inside plan.sizes m.phase extent payload passed).2),
+        omega (arith, w.row.left, is_next),
+        ap (λ k. extent.first + k) is_next,
+        alone t w.request extent payload h w.waits w.row.op w.row.first (extent.first + i) (holds_next extent i w.row.left),
+        ap (λ k. block_done plan h.lane (Writes (extent.first + i) (block_at size payload k)) p) is_next,
       ),
     )
 
@@ -311,103 +324,96 @@ module _ (plan : Plan) (s : Session) (d e : Disk) (p : Place) (k : IsAt plan s d
     first_now u q found less =
         let own : request_of w.request.ticket m.requests ≡ Some w.request = ap (λ u. request_of u m.requests) (found_ticket t m.requests w.request w.waits) ∙ w.waits in
         let ticket = ap (λ (v : Ticket). v.serial) (found_ticket u m.requests q found) in
-        not_waiting m w.request q w.extent w.payload u own w.op w.first found (omega (arith, ticket, less))
+        not_waiting m w.request q extent payload u own w.row.op w.row.first found (omega (arith, ticket, less))
 
     wrote_advances : Owes wrote_to s.hand → Goal (Wrote t i)
     wrote_advances owes = record {
       place = wrote_to;
       step = λ buffer agrees. subst (λ l. ItemStep plan buffer (items.Wrote l (s.number l) (first_in (plan.request l (s.number l)) + i)) p wrote_to) (sym h.found) (wrote_item buffer);
-      agrees = λ buffer agrees. agrees_going t (record w.request { done = w.request.done + 1 }) w.request w.waits refl w.requests (λ bytes same. less_front size w.request.done bytes (payload_of w.request.op) same) buffer agrees;
+      agrees = λ buffer agrees. agrees_going t (record w.request { done = w.request.done + 1 }) w.request w.waits refl w.row.goes_on (λ bytes same. less_front size w.request.done bytes (payload_of w.request.op) same) buffer agrees;
       in_hand = (t, ap s.hand h.found ∙ h.has);
-      at = goes_on t (record w.request { done = w.request.done + 1 }) w.request w.waits refl refl w.requests (λ asked is. is) (λ b. refl) first_now h _ w.settles owes;
+      at = goes_on t (record w.request { done = w.request.done + 1 }) w.request w.waits refl refl w.row.goes_on (λ asked is. is) (λ b. refl) first_now h _ w.settles owes;
       led = settled_led _ w.settles;
     }
 
-  module _ (t : Ticket) (i : ℕ) (w : DidRead plan m e.now e.may k.flat p reply step t i) where
+  module _ (t : Ticket) (i : ℕ) (w : DidRead plan m e k.flat p step t i) where
     abbrev pub r : Request
     r = w.request
 
     abbrev pub hr : Holder t w.request
     hr = holder t w.request w.waits
 
-    abbrev pub read : Request
-    read = record w.request { op = with_read size w.request.op w.request.done w.content; done = w.request.done + 1 }
+    abbrev from : Extent
+    from = w.row.extent
+
+    abbrev content : List ℕ
+    content = w.row.content
+
+    -- the buffer with what was read
+    abbrev with_content : List ℕ
+    with_content = filled size w.row.payload i content
+
+    abbrev read : Request
+    read = record w.request { op = ops.Read from with_content; done = w.request.done + 1 }
 
     abbrev pub got_to : Place
-    got_to = record p { flat = after n (Reads (w.extent.first + r.done) w.content) p.flat; done = put p.done hr.lane (suc (p.done hr.lane)) }
+    got_to = record p { flat = after n (Reads (from.first + i) content) p.flat; done = put p.done hr.lane (suc (p.done hr.lane)) }
 
-    asked_read : (q : List ℕ) × (hr.asked ≡ ops.Read w.extent q) × (length w.payload ≡ w.extent.count * size)
-    asked_read = for_read plan.sizes hr.asked w.extent w.payload (subst (IsFor plan.sizes hr.asked) w.op hr.is)
+    asked_read : (q : List ℕ) × (hr.asked ≡ ops.Read from q) × (length w.row.payload ≡ from.count * size)
+    asked_read = for_read plan.sizes hr.asked from w.row.payload (subst (IsFor plan.sizes hr.asked) w.row.op hr.is)
 
-    content_long : length w.content ≡ size
-    content_long = w.long
-
-    next_read : plan.request hr.lane (s.number hr.lane) ≡ Some (ops.Read w.extent asked_read.0)
+    next_read : plan.request hr.lane (s.number hr.lane) ≡ Some (ops.Read from asked_read.0)
     next_read = hr.next ∙ ap Some asked_read.1
 
-    block_got : first_in (plan.request hr.lane (s.number hr.lane)) + i ≡ w.extent.first + r.done
-    block_got = ap (λ o. first_in o + i) next_read ∙ ap (λ k. w.extent.first + k) w.index
+    is_next_read : i ≡ p.done hr.lane
+    is_next_read = w.row.next ∙ sym hr.done
 
-    -- the buffer has what was read
-    in_buffer : (buffer : List ℕ) → take ((r.done + 1) * size) buffer ≡ take ((r.done + 1) * size) (payload_of (with_read size r.op r.done w.content)) → block_at size buffer r.done ≡ w.content
-    in_buffer buffer same =
-        front_block size r.done buffer (filled size w.payload r.done w.content) (same ∙ ap (λ o. take ((r.done + 1) * size) (payload_of (with_read size o r.done w.content))) w.op)
-        ∙ filled_block size w.extent.count r.done w.payload w.content asked_read.2 w.below content_long
+    in_buffer : (buffer : List ℕ) → take ((r.done + 1) * size) buffer ≡ take ((r.done + 1) * size) with_content → block_at size buffer r.done ≡ content
+    in_buffer buffer same = front_block size r.done buffer with_content same ∙ ap (block_at size with_content) (sym w.row.next) ∙ filled_block size from.count i w.row.payload content asked_read.2 w.row.left w.row.whole
 
     found_read : request_of t step.memory.requests ≡ Some read
     found_read =
         let mine : r.ticket ≡ t = found_ticket t m.requests r w.waits in
-        ap (request_of t) w.requests ∙ ap (λ u. request_of u (with_request read m.requests)) (sym mine) ∙ of_with read m.requests r (ap (λ u. request_of u m.requests) mine ∙ w.waits)
+        ap (request_of t) w.row.goes_on ∙ ap (λ u. request_of u (with_request read m.requests)) (sym mine) ∙ of_with read m.requests r (ap (λ u. request_of u m.requests) mine ∙ w.waits)
 
-    agrees_read : (buffer : List ℕ) → AgreesInHand plan.sizes step.memory.requests buffer (s.hand hr.lane) → take ((r.done + 1) * size) buffer ≡ take ((r.done + 1) * size) (payload_of (with_read size r.op r.done w.content))
+    agrees_read : (buffer : List ℕ) → AgreesInHand plan.sizes step.memory.requests buffer (s.hand hr.lane) → take ((r.done + 1) * size) buffer ≡ take ((r.done + 1) * size) with_content
     agrees_read buffer a = subst (AgreesThere plan.sizes buffer) found_read (subst (AgreesInHand plan.sizes step.memory.requests buffer) hr.has a)
 
     got_item : (buffer : Buffers) → Agrees plan went buffer → ItemStep plan buffer (items.Got hr.lane (s.number hr.lane) (first_in (plan.request hr.lane (s.number hr.lane)) + i)) p got_to
     got_item buffer agrees =
-        let content : block_at size (buffer hr.lane (p.number hr.lane)) (p.done hr.lane) ≡ w.content =
+        let has : block_at size (buffer hr.lane (p.number hr.lane)) (p.done hr.lane) ≡ content =
         ap (λ x. block_at size (buffer hr.lane x) (p.done hr.lane)) (k.number hr.lane) ∙ ap (block_at size (buffer hr.lane (s.number hr.lane))) hr.done ∙ in_buffer (buffer hr.lane (s.number hr.lane)) (agrees_read _ (agrees.there hr.lane)) in
-        subst (λ b. ItemStep plan buffer (items.Got hr.lane (s.number hr.lane) b) p got_to) (sym block_got) (
+        subst (λ o. ItemStep plan buffer (items.Got hr.lane (s.number hr.lane) (first_in o + i)) p got_to) (sym next_read) (
           sym (k.number hr.lane),
-          ops.Read w.extent asked_read.0,
+          ops.Read from asked_read.0,
           next_read,
           (
             w.inside,
-            omega (arith, w.below, hr.done),
-            ap (λ k. w.extent.first + k) (sym hr.done),
-            subst (λ v. Allows n (Reads (w.extent.first + r.done) v) p.flat) (sym content) w.allowed,
-            ap (λ v. block_done plan hr.lane (Reads (w.extent.first + r.done) v) p) (sym content),
+            omega (arith, w.row.left, is_next_read),
+            ap (λ k. from.first + k) is_next_read,
+            subst (λ v. Allows n (Reads (from.first + i) v) p.flat) (sym has) w.allowed,
+            ap (λ v. block_done plan hr.lane (Reads (from.first + i) v) p) (sym has),
           ),
         )
 
-    same_read : (asked : Op) → IsFor plan.sizes asked r.op → IsFor plan.sizes asked (with_read size r.op r.done w.content)
-    same_read asked is = subst (λ o. IsFor plan.sizes asked (with_read size o r.done w.content)) (sym w.op) (go asked (subst (IsFor plan.sizes asked) w.op is))
-      where
-        go : (asked : Op) → IsFor plan.sizes asked (ops.Read w.extent w.payload) → IsFor plan.sizes asked (ops.Read w.extent (filled size w.payload r.done w.content))
-        go (ops.Read x q) is = (is.0, filled_long size w.extent.count r.done w.payload w.content asked_read.2 w.below content_long ∙ ap (λ (y : Extent). y.count * size) is.0)
-        go (ops.Write x q) is = absurd (let clash : ops.Read w.extent w.payload ≡ ops.Write x q = is in grind arith)
-        go (ops.Discard x) is = absurd (let clash : ops.Read w.extent w.payload ≡ ops.Discard x = is in grind arith)
-        go ops.Flush is = absurd (let clash : ops.Read w.extent w.payload ≡ ops.Flush = is in grind arith)
-        go ops.Prepare is = absurd (let clash : ops.Read w.extent w.payload ≡ ops.Prepare = is in grind arith)
-        go ops.Commit is = absurd (let clash : ops.Read w.extent w.payload ≡ ops.Commit = is in grind arith)
+    same_read : (asked : Op) → IsFor plan.sizes asked r.op → IsFor plan.sizes asked read.op
+    same_read asked is = for_buffer plan.sizes asked from w.row.payload with_content (filled_long size from.count i w.row.payload content asked_read.2 w.row.left w.row.whole) (subst (IsFor plan.sizes asked) w.row.op is)
 
-    no_writes : (b : ℕ) → writes (with_read size r.op r.done w.content) b ≡ false
-    no_writes b = subst (λ o. writes (with_read size o r.done w.content) b ≡ false) (sym w.op) refl
-
-    read_front : (bytes : List ℕ) → take ((r.done + 1) * size) bytes ≡ take ((r.done + 1) * size) (payload_of (with_read size r.op r.done w.content)) → take (r.done * size) bytes ≡ take (r.done * size) (payload_of r.op)
-    read_front bytes same = less_front size r.done bytes (payload_of (with_read size r.op r.done w.content)) same
-        ∙ subst (λ o. take (r.done * size) (payload_of (with_read size o r.done w.content)) ≡ take (r.done * size) (payload_of o)) (sym w.op) (filled_front size w.extent.count r.done w.payload w.content asked_read.2 w.below content_long)
+    read_front : (bytes : List ℕ) → take ((r.done + 1) * size) bytes ≡ take ((r.done + 1) * size) with_content → take (r.done * size) bytes ≡ take (r.done * size) (payload_of r.op)
+    read_front bytes same = less_front size r.done bytes with_content same
+        ∙ subst (λ k. take (k * size) with_content ≡ take (k * size) w.row.payload) w.row.next (filled_front size from.count i w.row.payload content asked_read.2 w.row.left w.row.whole) ∙ ap (λ o. take (r.done * size) (payload_of o)) (sym w.row.op)
 
     got_advances : Owes got_to s.hand → Goal (Got t i)
     got_advances owes = record {
       place = got_to;
       step = λ buffer agrees. subst (λ l. ItemStep plan buffer (items.Got l (s.number l) (first_in (plan.request l (s.number l)) + i)) p got_to) (sym hr.found) (got_item buffer agrees);
-      agrees = λ buffer agrees. agrees_going t read r w.waits refl w.requests read_front buffer agrees;
+      agrees = λ buffer agrees. agrees_going t read r w.waits refl w.row.goes_on read_front buffer agrees;
       in_hand = (t, ap s.hand hr.found ∙ hr.has);
-      at = goes_on t read r w.waits refl refl w.requests same_read (λ b. no_writes b ∙ sym (ap (λ o. writes o b) w.op)) (λ u q found less b one two. false≢true (sym (no_writes b) ∙ two)) hr _ w.settles owes;
+      at = goes_on t read r w.waits refl refl w.row.goes_on same_read (λ b. sym (ap (λ o. writes o b) w.row.op)) (λ u q found less b one two. false≢true two) hr _ w.settles owes;
       led = settled_led _ w.settles;
     }
 
-  module _ (t : Ticket) (op : Op) (outcome : Outcome) (w : DidAnswer plan m e.now e.may k.flat p reply step t op outcome) where
+  module _ (t : Ticket) (op : Op) (outcome : Outcome) (w : DidAnswer plan m e k.flat p step t op outcome) where
     abbrev pub ha : Holder t w.request
     ha = holder t w.request w.waits
 
@@ -427,7 +433,7 @@ module _ (plan : Plan) (s : Session) (d e : Disk) (p : Place) (k : IsAt plan s d
     abbrev answered_at : Owes answered_to (put s.hand ha.lane None) → IsAt plan (answered_in went ha.lane op) e answered_to
     answered_at owes = record {
       flat = w.settles.flat;
-      stands = standing plan.sizes step.memory e.now e.may w.settles.flat keeps.sound keeps.blocks w.settles.stands;
+      stands = w.settles.stands;
       lags = w.settles.lags;
       number = number;
       done = done;
@@ -500,14 +506,14 @@ module _ (plan : Plan) (s : Session) (d e : Disk) (p : Place) (k : IsAt plan s d
         (record { place = answered_to; step = λ buffer agrees. answered_item buffer; agrees = agrees_answered; in_hand = (t, ha.has); at = answered_at owes; led = settled_led w.flat w.settles })
 
   -- what is still to be shown, by what was told
-  abbrev pub OwesFor : (told : Told) → Leads plan m e.now e.may k.flat p reply step told → Type 0
+  abbrev pub OwesFor : (told : Told) → Leads plan m e k.flat p step told → Type 0
   OwesFor Idle w = Owes p s.hand
   OwesFor Moved w = Owes p s.hand
   OwesFor (Wrote t i) w = Owes (wrote_to t i w) s.hand
   OwesFor (Got t i) w = Owes (got_to t i w) s.hand
   OwesFor (Answered t op outcome) w = Owes (answered_to t op outcome w) (put s.hand (ha t op outcome w).lane None)
 
-  pub advances : (told : Told) (w : Leads plan m e.now e.may k.flat p reply step told) → OwesFor told w → Goal told
+  pub advances : (told : Told) (w : Leads plan m e k.flat p step told) → OwesFor told w → Goal told
   advances Idle w owes = record { place = p; step = λ buffer agrees. refl; agrees = agrees_quiet w.0; in_hand = tt; at = quiet w.0 w.1 owes; led = settled_led p.flat w.1 }
   advances Moved w owes = record { place = p; step = λ buffer agrees. refl; agrees = agrees_quiet w.0; in_hand = tt; at = quiet w.0 w.1 owes; led = settled_led p.flat w.1 }
   advances (Wrote t i) w owes = wrote_advances t i w owes

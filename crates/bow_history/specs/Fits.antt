@@ -1,5 +1,5 @@
 -- When a session, over a disk, is at a place of its journal.
-use Rattle.std.specs.Prelude.{ℕ, zero, suc, ◌+◌, ◌-◌, ◌*◌, ◌<◌, ◌≤◌, ◌≡◌, ◌&&◌, nat_lt, true, false, if◌then◌else◌, List, [], length, take, Option, None, Some}
+use Rattle.std.specs.Prelude.{ℕ, zero, suc, ◌+◌, ◌-◌, ◌*◌, ◌<◌, ◌≤◌, ◌≡◌, ◌&&◌, nat_lt, true, if◌then◌else◌, List, [], take, Option, None, Some}
 use Rattle.std.specs.List.{sum_by, list_any}
 use Rattle.bow_units.specs.declared.sizes.Geometry.{Geometry}
 use Rattle.bow_units.specs.declared.requests.Op.{Op}

@@ -1,6 +1,6 @@
 -- The order in which a session's actors step: drawn from one number.
-use Rattle.std.specs.Prelude.{ℕ, zero, suc, ◌+◌, ◌%◌, ◌<◌, ◌≡◌, ◌==◌, nat_lt, Bool, true, if◌then◌else◌, List, [], ◌∷◌}
-use Rattle.std.specs.Prelude.{Option, Some}
+use Rattle.std.specs.Prelude.{ℕ, zero, suc, ◌+◌, ◌%◌, ◌<◌, ◌≡◌, ◌==◌, nat_lt, true, if◌then◌else◌, List, [], ◌∷◌}
+use Rattle.std.specs.Prelude.{Some}
 use Rattle.bow_units.specs.Draws.{next_number, drawn_value}
 use Rattle.bow_units.specs.declared.requests.Op.{Op}
 use Rattle.bow_history.specs.declared.items.Actor.{Actor}

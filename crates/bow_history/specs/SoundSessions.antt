@@ -1,5 +1,5 @@
 -- What a session keeps over any disk, whatever its calls reply.
-use Rattle.std.specs.Prelude.{ℕ, ◌<◌, ◌≡◌, List, [], ◌∷◌, length, Option, None, Some, true}
+use Rattle.std.specs.Prelude.{ℕ, ◌<◌, ◌≡◌, List, [], ◌∷◌, length, None, Some, true}
 use Rattle.bow_units.specs.declared.requests.Op.{Op}
 use Rattle.bow_machine.specs.Memory.{Memory}
 use Rattle.bow_machine.specs.MemoryIsSound.{MemoryIsSound}

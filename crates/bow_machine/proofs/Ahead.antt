@@ -108,7 +108,7 @@ may_saved (Some cs) v w h = subst (λ c. May c v) (sym (h refl).1) (subst (Conta
 
 module _ (g : Geometry) (m : Memory) (now : Contents) (may : Candidates) (one f : Flat) (l : IsLed g m now may one) (s : IsHeld g m now may f) where
   first : 0 < g.blocks
-  first = omega (arith, s.sizes.enough)
+  first = omega (arith, s.memory.sizes.enough)
 
   -- where the log's current place is settled
   settled : (log : Generation) → m.log ≡ Some log → may log.current ≡ now log.current ∷ [] → Shows0 may f.pending log.current
@@ -122,7 +122,7 @@ module _ (g : Geometry) (m : Memory) (now : Contents) (may : Candidates) (one f 
       | inl at ↦ absurd (let clash : Arming ≡ Checkpoint = sym is ∙ at in grind arith)
       | inr magic ↦ elim (a.heads v h) [
         | inl saved ↦ absurd (s.state.plain_saved (subst (λ p. HasCheckpoint p) (sym (s.phases ∙ is)) tt) (subst HasMagic saved magic))
-        | inr logged ↦ subst (λ (o : Generation). IsPlace0 (kind_at m.kinds o.current) × Shows0 may f.pending o.current) (some_inj (sym logged ∙ spells)) (inl log.2.current, shows)
+        | inr logged ↦ subst (λ (o : Generation). IsPlace0 (kind_at m.kinds o.current) × Shows0 may f.pending o.current) (some_inj (sym logged ∙ spells)) (inl log.2.sound.current, shows)
       ]
     ];
     current = λ o some. subst (λ (x : Generation). Shows0 may f.pending x.current) (some_inj (sym log.1 ∙ some)) shows;
@@ -149,7 +149,7 @@ module _ (g : Geometry) (m : Memory) (now : Contents) (may : Candidates) (one f 
     others = λ b up on v h. may_within (f.current b) (f.pending b) v (s.state.within b) (subst (May (f.current b)) (sym (one_of (now b) v (subst (λ vs. Contains vs v) (a.one b up on) h))) (a.current b up on));
     heads = λ v head h begins spells. elim begins [
       | inl at ↦ absurd (let clash : Deciding ≡ Checkpoint = sym is ∙ at in grind arith)
-      | inr magic ↦ subst (λ (o : Generation). IsPlace0 (kind_at m.kinds o.current) × Shows0 may f.pending o.current) (some_inj (sym log.1 ∙ l.deciding is v head h magic spells)) (inl log.2.current, shows)
+      | inr magic ↦ subst (λ (o : Generation). IsPlace0 (kind_at m.kinds o.current) × Shows0 may f.pending o.current) (some_inj (sym log.1 ∙ l.deciding is v head h magic spells)) (inl log.2.sound.current, shows)
     ];
     current = λ o some. subst (λ (x : Generation). Shows0 may f.pending x.current) (some_inj (sym log.1 ∙ some)) shows;
     arming = l.arming;
@@ -164,7 +164,7 @@ module _ (g : Geometry) (m : Memory) (now : Contents) (may : Candidates) (one f 
       a = log.2.leaves
 
       shows : Shows0 may f.pending log.0.current
-      shows = settled log.0 log.1 (a.one log.0.current (a.log.behind.valid).current_not_0 log.2.current_inside)
+      shows = settled log.0 log.1 (a.one log.0.current (a.log.behind.valid).current_not_0 log.2.sound.generation.current_inside)
 
   -- an image with another candidate in one block
   cut_with : (image : Contents) (b : ℕ) (v : List ℕ) → IsCut g may image → Contains (may b) v → IsCut g may (with_block image b v)
@@ -182,7 +182,7 @@ module _ (g : Geometry) (m : Memory) (now : Contents) (may : Candidates) (one f 
     shown_0 v head h spells w has =
         let at_0 : Contents = with_block now 0 v in
         let image : Contents = with_block at_0 head.current w in
-        let apart : 0 ≢ head.current = λ z. head_not_0 g s.sizes v head spells (sym z) in
+        let apart : 0 ≢ head.current = λ z. head_not_0 g s.memory.sizes v head spells (sym z) in
         let zeroth : image 0 ≡ v = block_other at_0 head.current w 0 apart ∙ block_there now 0 v in
         subst (May (f.pending 0)) (block_there image 0 (image head.current) ∙ block_there at_0 head.current w)
         (ahead image head (cut_with at_0 head.current w (cut_with now 0 v s.held h) has) (ap (log_in g) zeroth ∙ spells) 0 first)

@@ -71,16 +71,16 @@ module _ (g : Geometry) (sizes : IsValid g) (m : Memory) (t : Ticket) (log : Gen
         → StepLed g new_now new_may f (batch_step g (at_work m job done slots t log) (batch_at job done slots t) reply)
     act_led act is Failed does ok = not_failed (call act) Failed refl ok
     act_led (Read b slot) is (Gave v) does ok = subst (StepLed g new_now new_may f) (sym (lead_gave g m job slots t log done below v))
-        (λ new. disk_led g Checkpoint m.kinds (Some log) f.pending now new_now may new_may does.1 does.2 (led (new.kept).current))
+        (λ new. disk_led g Checkpoint m.kinds (Some log) f.pending now new_now may new_may does.1 does.2 (led (new.kept).sound.current))
     act_led (Read b slot) is Succeeded does ok = absurd does
     act_led (Write b slot) is Succeeded does ok = subst (StepLed g new_now new_may f) (sym (lead_succeeded g m job slots t log done below)) written
       where
         written : StepLed g new_now new_may f (record { memory = at_work m job (done + 1) slots t log; told = Moved; events = [] })
         written new =
             let k : IsKept g (at_work m job (done + 1) slots t log) new_now new_may f Checkpoint log = new.kept in
-            hidden_written g sizes Checkpoint m.kinds (Some log) now new_now may new_may f.pending b _ does.0.given (led k.current)
-            (λ z. backup_sector0 (kind_at m.kinds b) is.1 (ap (kind_at m.kinds) z ∙ new.table.zeroth)) refl is.1 (k.hidden b is.0 (inr (inl is.1))).1
-            (λ o some e. backup_current (kind_at m.kinds b) is.1 (ap (kind_at m.kinds) (sym e ∙ ap (λ (x : Generation). x.current) (sym (some_inj some))) ∙ k.current))
+            hidden_written g sizes Checkpoint m.kinds (Some log) now new_now may new_may f.pending b _ does.0.given (led k.sound.current)
+            (λ z. backup_sector0 (kind_at m.kinds b) is.1 (ap (kind_at m.kinds) z ∙ new.memory.table.zeroth)) refl is.1 (k.hidden b is.0 (inr (inl is.1))).1
+            (λ o some e. backup_current (kind_at m.kinds b) is.1 (ap (kind_at m.kinds) (sym e ∙ ap (λ (x : Generation). x.current) (sym (some_inj some))) ∙ k.sound.current))
     act_led (Write b slot) is (Gave v) does ok = absurd does
     act_led Flush is Succeeded does ok = subst (StepLed g new_now new_may f) (sym (lead_succeeded g m job slots t log done below)) flushed
       where
@@ -88,7 +88,7 @@ module _ (g : Geometry) (sizes : IsValid g) (m : Memory) (t : Ticket) (log : Gen
         flushed new =
             let k : IsKept g (at_work m job (done + 1) slots t log) new_now new_may f Checkpoint log = new.kept in
             disk_led g Checkpoint m.kinds (Some log) f.pending now new_now new_may new_may does.0 refl
-            (flushed_so g sizes Checkpoint m.kinds (Some log) now may new_may f.pending held does.1 (λ o some. subst (λ (x : Generation). x.current < g.blocks) (some_inj some) k.current_inside) (led k.current))
+            (flushed_so g sizes Checkpoint m.kinds (Some log) now may new_may f.pending held does.1 (λ o some. subst (λ (x : Generation). x.current < g.blocks) (some_inj some) k.sound.generation.current_inside) (led k.sound.current))
     act_led Flush is (Gave v) does ok = absurd does
     act_led WriteLog is reply does ok = absurd is
     act_led End is reply does ok = absurd is
@@ -121,14 +121,14 @@ module _ (g : Geometry) (sizes : IsValid g) (m : Memory) (t : Ticket) (log : Gen
         → Acted (Copy source dest count) done slots reply → Unfailed (Copy source dest count) done slots reply → StepOf (Copy source dest count) done slots reply
     copy_led source dest count done below led does ok new =
         elim (cases_lt done count) [
-          | inl reading ↦ by_act (Read (source + done) done) tt (copy_reads source dest count done reading (omega (arith, h.source_inside, sizes.few, reading)))
+          | inl reading ↦ by_act (Read (source + done) done) tt (copy_reads source dest count done reading (omega (arith, h.ready.source_inside, sizes.few, reading)))
           | inr past ↦ elim (cases_lt done (2 * count)) [
             | inl writing ↦
                 let i = done - count in
                 let at : done ≡ count + i = omega (arith, past) in
                 let under : i < count = omega (arith, past, writing) in
-                by_act (Write (dest + i) i) (omega (arith, h.dest_inside, under), h.dests i under)
-                (ap (λ d. next_act (running (Copy source dest count) d)) at ∙ copy_writes source dest count i under (omega (arith, h.dest_inside, sizes.few, under)))
+                by_act (Write (dest + i) i) (omega (arith, h.ready.dest_inside, under), h.ready.dests i under)
+                (ap (λ d. next_act (running (Copy source dest count) d)) at ∙ copy_writes source dest count i under (omega (arith, h.ready.dest_inside, sizes.few, under)))
             | inr flushing ↦
                 let at : done ≡ 2 * count = omega (arith, flushing, below, lead_copy source dest count) in
                 by_act Flush tt (ap (λ d. next_act (running (Copy source dest count) d)) at ∙ copy_flush source dest count)
@@ -151,14 +151,14 @@ module _ (g : Geometry) (sizes : IsValid g) (m : Memory) (t : Ticket) (log : Gen
     lead_led Rewrite done below led does ok = absurd (omega arith)
     lead_led (Link dest) zero below led does ok = λ new.
         let h = (job_further (Link dest) 0 slots below led reply (λ is. not_failed _ reply is ok) new).1 in
-        act_led (Link dest) 0 slots below led (Write dest 0) (h.0.inside, h.0.kind) reply does ok new
+        act_led (Link dest) 0 slots below led (Write dest 0) (h.0.ready.inside, h.0.ready.kind) reply does ok new
     lead_led (Link dest) (suc zero) below led does ok = act_led (Link dest) 1 slots below led Flush tt reply does ok
     lead_led (Link dest) (suc (suc n)) below led does ok = absurd (omega arith)
     lead_led (Copy source dest count) done below led does ok = copy_led source dest count done below led does ok
     lead_led (Move from to) zero below led does ok = act_led (Move from to) 0 slots below led (Read from 0) tt reply does ok
     lead_led (Move from to) (suc zero) below led does ok = λ new.
         let h = (job_further (Move from to) 1 slots below led reply (λ is. not_failed _ reply is ok) new).1 in
-        act_led (Move from to) 1 slots below led (Write to 0) (h.0.inside, h.0.kind) reply does ok new
+        act_led (Move from to) 1 slots below led (Write to 0) (h.0.ready.inside, h.0.ready.kind) reply does ok new
     lead_led (Move from to) (suc (suc zero)) below led does ok = act_led (Move from to) 2 slots below led Flush tt reply does ok
     lead_led (Move from to) (suc (suc (suc n))) below led does ok = absurd (omega arith)
 
@@ -173,12 +173,12 @@ module _ (g : Geometry) (sizes : IsValid g) (m : Memory) (t : Ticket) (log : Gen
     places : (job : Job) → LogHeld job → (x : ℕ) → IsPlace0 (kind_at m.kinds x) → IsPlace0 (kind_at (kinds_for job m.kinds) x)
     places Rewrite h x at = at
     places (Link dest) h x at = at
-    places (Copy source dest count) h x at = place_with_kind m.kinds (record { first = source; count = count }) Saved x (omega (arith, h.0.source_inside, size)) (inr refl) at
+    places (Copy source dest count) h x at = place_with_kind m.kinds (record { first = source; count = count }) Saved x (omega (arith, h.0.ready.source_inside, size)) (inr refl) at
     places (Move from to) h x at =
-        let fits : to + 1 ≤ length m.kinds = omega (arith, h.0.inside, size) in
+        let fits : to + 1 ≤ length m.kinds = omega (arith, h.0.ready.inside, size) in
         let first : List Kind = with_kind m.kinds (one_block to) Current in
         let long : length first ≡ length m.kinds = length_with m.kinds (one_block to) Current fits in
-        place_with_kind first (one_block from) Saved x (omega (arith, long, h.0.from_current, inside, size)) (inr refl) (place_with_kind m.kinds (one_block to) Current x fits (inl refl) at)
+        place_with_kind first (one_block from) Saved x (omega (arith, long, h.0.ready.from_current, inside, size)) (inr refl) (place_with_kind m.kinds (one_block to) Current x fits (inl refl) at)
 
     -- what the new log's current place may hold is pending
     shows : (job : Job) → LogHeld job → Shows0 may f.pending (log_for job slots log).current
@@ -187,7 +187,7 @@ module _ (g : Geometry) (sizes : IsValid g) (m : Memory) (t : Ticket) (log : Gen
     shows (Copy source dest count) h = l.current log refl
     shows (Move from to) h = λ v has.
         let is : v ≡ now to = one_of (now to) v (subst (λ vs. Contains vs v) (h.0.durable (omega arith)) has) in
-        subst (May (f.pending 0)) (sym (is ∙ h.0.wrote (omega arith) ∙ ap now h.0.from_current)) (l.current log refl (now log.current) (held log.current inside))
+        subst (May (f.pending 0)) (sym (is ∙ h.0.wrote (omega arith) ∙ ap now h.0.ready.from_current)) (l.current log refl (now log.current) (held log.current inside))
 
     pub log_led : (job : Job) → LogHeld job → (reply : Reply) → Acted job (lead job) slots reply → Unfailed job (lead job) slots reply → StepOf job (lead job) slots reply
     log_led job h Failed does ok = not_failed _ Failed refl ok
@@ -203,9 +203,9 @@ module _ (g : Geometry) (sizes : IsValid g) (m : Memory) (t : Ticket) (log : Gen
             zeroth_written g sizes Checkpoint m.kinds (kinds_for job m.kinds) (Some log) (Some (log_for job slots log)) now new_now may new_may f.pending (spelling g (log_for job slots log)) wrote.0.given l (λ ne. absurd (ne refl)) (λ at. absurd (grind arith)) (places job h)
             (λ head magic spells.
             let same : log_for job slots log ≡ head = some_inj (sym spelled ∙ ap (log_in g) wrote.1 ∙ spells) in
-            subst (λ (o : Generation). IsPlace0 (kind_at (kinds_for job m.kinds) o.current) × Shows0 may f.pending o.current) same (inl k.current, shows job h))
+            subst (λ (o : Generation). IsPlace0 (kind_at (kinds_for job m.kinds) o.current) × Shows0 may f.pending o.current) same (inl k.sound.current, shows job h))
             (λ o some. subst (λ (o : Generation). (o.current ≢ 0) × Shows0 may f.pending o.current) (some_inj some)
-            (λ z. current_sector0 (kind_at (kinds_for job m.kinds) (log_for job slots log).current) k.current (ap (kind_at (kinds_for job m.kinds)) z ∙ new.table.zeroth), shows job h))
+            (λ z. current_sector0 (kind_at (kinds_for job m.kinds) (log_for job slots log).current) k.sound.current (ap (kind_at (kinds_for job m.kinds)) z ∙ new.memory.table.zeroth), shows job h))
             (λ is o some. spelled ∙ some)
     log_led job h (Gave v) does ok = absurd (subst (λ a. Does g (call_of_act g (at_work m job (lead job) slots t log) (batch_at job (lead job) slots t) a) (Gave v) now may new_now new_may) (log_act job) does)
 
@@ -221,7 +221,7 @@ module _ (g : Geometry) (sizes : IsValid g) (m : Memory) (t : Ticket) (log : Gen
         ended new =
             let k : IsKept g (working (record m { kinds = map unsaved m.kinds; clean = true }) Empty log) new_now new_may f Checkpoint log = new.kept in
             disk_led g Checkpoint (map unsaved m.kinds) (Some log) f.pending now new_now new_may new_may flushed.0 refl
-            (flushed_led g sizes Checkpoint (map unsaved m.kinds) log now new_may f.pending flushed.1 (l.led refl log refl) inside k.current
+            (flushed_led g sizes Checkpoint (map unsaved m.kinds) log now new_may f.pending flushed.1 (l.led refl log refl) inside k.sound.current
             (λ b up on. l.others b up on (now b) (held b on)) (l.current log refl (now log.current) (held log.current inside)))
     last_led job (Gave v) does ok = absurd (subst (λ a. Does g (call_of_act g (at_work m job (lead job + 1) slots t log) (batch_at job (lead job + 1) slots t) a) (Gave v) now may new_now new_may) (last_act job) does)
 
@@ -246,7 +246,7 @@ module _ (g : Geometry) (m : Memory) (log : Generation) (f : Flat) (now new_now 
       → Does g (call_of_act g (working m (Batching b) log) b (next_act b.progress)) reply now may new_now new_may → (reply ≡ Failed → Some (call_of_act g (working m (Batching b) log) b (next_act b.progress)) ≡ None)
       → StepLed g new_now new_may f (batch_step g (working m (Batching b) log) b reply)
   batch_led b s l does ok = subst Step_led (ap running_or (sym runs))
-      (λ s does ok. at_led g s.sizes m b.ticket log f now new_now may new_may s.held b.slots s.kept.current_inside s.table.size l b.progress.job b.progress.done reply s.in_hand does ok) s does ok
+      (λ s does ok. at_led g s.memory.sizes m b.ticket log f now new_now may new_may s.held b.slots s.kept.sound.generation.current_inside s.memory.table.size l b.progress.job b.progress.done reply s.in_hand does ok) s does ok
     where
       runs : b.progress.failed ≡ false
       runs = (s.in_hand).runs

@@ -22,6 +22,7 @@ use Rattle.bow_guard.proofs.Phases.{may_plain}
 use Rattle.bow_queue.specs.declared.tickets.Ticket.{Ticket}
 use Rattle.bow_ranges.specs.Kinds.{kind_at, is_free, count_of}
 use Rattle.bow_ranges.specs.Picks.{picked}
+use Rattle.bow_machine.specs.MemoryIsSound.{IsForCommand}
 use Rattle.bow_machine.proofs.Known.{may_narrowed}
 use Rattle.bow_machine.specs.Requests.{Request, request_of}
 use Rattle.bow_machine.specs.Memory.{Memory, Hand, Empty, Batching, Preparing, Committing, PrepareAct, ReadsBlock0, WritesCurrent, WritesBackup, FlushesCopies, WritesFirstLog, FlushesFirstLog, CommitAct, FlushesAll, ReadsCurrent, WritesBlock0, FlushesDecision, place_of, place_with, has_command}
@@ -29,7 +30,7 @@ use Rattle.bow_machine.specs.Calls.{Reply, Failed, Succeeded, Gave, Does, DoesIt
 use Rattle.bow_machine.specs.Tasks.{Task, Waits, Answers, WritesBlock, ReadsBlock, FlushesFor, DiscardsFor, Acts, Command, prepare_on, without_picked, taken, first_of, take_first, command_task, task_of, spelling}
 use Rattle.bow_machine.specs.Steps.{log_of_memory, log_or_blank, first_log, armed, call_of_prepare, prepare_step, call_of_commit, commit_step, released, answered_for, answered, moved, committing_events, act_step, call_in_hand}
 use Rattle.bow_machine.specs.MemoryIsSound.{FoundIn}
-use Rattle.bow_machine.proofs.Held.{PrepareHeld, CommitHeld, ForCommand, HandHeld, IsHeld}
+use Rattle.bow_machine.proofs.Held.{PrepareHeld, CommitHeld, HandHeld, IsHeld}
 use Rattle.bow_machine.specs.Ahead.{Shows0, IsPlace0, BeginsLog, IsLedIn, IsLed}
 use Rattle.bow_machine.proofs.Spelled.{spelled}
 use Rattle.bow_machine.proofs.BatchStands.{place_other}
@@ -43,7 +44,7 @@ begins_not : {A : Type 0} (v : List ℕ) → (HasMagic v → ⊥) → BeginsLog 
 begins_not v plain (inl at) = absurd (grind arith)
 begins_not v plain (inr magic) = absurd (plain magic)
 
-module _ (g : Geometry) (m : Memory) (now new_now : Contents) (may new_may : Candidates) (f : Flat) (s : IsHeld g m now may f) (l : IsLed g m now may f) (t : Ticket) (waits : ForCommand m.requests t) where
+module _ (g : Geometry) (m : Memory) (now new_now : Contents) (may new_may : Candidates) (f : Flat) (s : IsHeld g m now may f) (l : IsLed g m now may f) (t : Ticket) (op : Op) (waits : IsForCommand m.requests t op) where
   -- the request is answered: that of the command still waits
   answer_led : (n : Memory) (outcome : Request → Outcome) (happens : Request → List Event) → ((r : Request) → StepLed g new_now new_may f (answered n r (outcome r) (happens r)))
       → StepLed g new_now new_may f (answered_for n (request_of t m.requests) outcome happens)
@@ -59,7 +60,7 @@ module _ (g : Geometry) (m : Memory) (now new_now : Contents) (may new_may : Can
   arms_led : (c b : ℕ) (content : List ℕ) → c < g.blocks → content ≡ now 0 → now c ≡ content → IsFlushed g now new_may → StepLed g now new_may f (moved (armed m t c b content) (Arms now ∷ []))
   arms_led c b content inside read wrote flushed new = record {
     others = λ x up on v h. subst (May (narrowed (f.current x) (now x))) (sym (one x on v h)) (may_narrowed (f.current x) (now x));
-    heads = λ v head h begins spells. elim begins [ inl at ↦ absurd (grind arith) | inr magic ↦ absurd (may_plain (narrowed (f.current 0) (now 0)) v new.state.pending_0 (subst (May (narrowed (f.current 0) (now 0))) (sym (one 0 (omega (arith, s.sizes.enough)) v h)) (may_narrowed (f.current 0) (now 0))) magic) ];
+    heads = λ v head h begins spells. elim begins [ inl at ↦ absurd (grind arith) | inr magic ↦ absurd (may_plain (narrowed (f.current 0) (now 0)) v new.state.pending_0 (subst (May (narrowed (f.current 0) (now 0))) (sym (one 0 (omega (arith, s.memory.sizes.enough)) v h)) (may_narrowed (f.current 0) (now 0))) magic) ];
     current = λ o some v h. subst (May (narrowed (f.current 0) (now 0))) (sym (at_c o some v h)) (may_narrowed (f.current 0) (now 0));
     arming = λ at o some. flushed o.current (subst (λ x. x < g.blocks) (there o some) inside);
     led = λ at o some. absurd (grind arith);
@@ -78,11 +79,11 @@ module _ (g : Geometry) (m : Memory) (now new_now : Contents) (may new_may : Can
   -- its log is written
   first_led : (c b : ℕ) → m.phase ≡ Arming → Does g (call_of_prepare g m c b WritesFirstLog) Succeeded now may new_now new_may → StepLed g new_now new_may f (prepare_step now m t c b WritesFirstLog Succeeded)
   first_led c b is does new =
-      zeroth_written g s.sizes m.phase m.kinds m.kinds m.log m.log now new_now may new_may f.pending (spelling g (log_of_memory m)) does.0.given l (λ ne. refl)
+      zeroth_written g s.memory.sizes m.phase m.kinds m.kinds m.log m.log now new_now may new_may f.pending (spelling g (log_of_memory m)) does.0.given l (λ ne. refl)
       (λ at. absurd (let clash : Arming ≡ Deciding = sym is ∙ at in grind arith)) (λ x at. at)
       (λ head begins spells.
       let same : log.0 ≡ head = some_inj (sym spells_it ∙ spells) in
-      subst (λ (o : Generation). IsPlace0 (kind_at m.kinds o.current) × Shows0 may f.pending o.current) same (inl log.2.current, l.current log.0 log.1))
+      subst (λ (o : Generation). IsPlace0 (kind_at m.kinds o.current) × Shows0 may f.pending o.current) same (inl log.2.sound.current, l.current log.0 log.1))
       (λ o some. (λ z. not_0 (ap (λ (x : Generation). x.current) (some_inj (sym log.1 ∙ some)) ∙ z), l.current o some))
       (λ at o some. absurd (let clash : Arming ≡ Checkpoint = sym is ∙ at in grind arith))
     where
@@ -93,7 +94,7 @@ module _ (g : Geometry) (m : Memory) (now new_now : Contents) (may new_may : Can
       not_0 z = let valid = log.2.leaves.log.behind.valid in omega (arith, valid.current_not_0, z)
 
       spells_it : log_in g (spelling g (log_of_memory m)) ≡ Some log.0
-      spells_it = ap (λ o. log_in g (spelling g (log_or_blank o))) log.1 ∙ spelled g log.0 s.sizes log.2.leaves.log.behind.valid log.2.fits
+      spells_it = ap (λ o. log_in g (spelling g (log_or_blank o))) log.1 ∙ spelled g log.0 s.memory.sizes log.2.leaves.log.behind.valid log.2.sound.fits
 
   -- and durable
   ends_led : (c b : ℕ) → m.phase ≡ Arming → ((log : Generation) → m.log ≡ Some log → log_in g (now 0) ≡ Some log) → Does g (call_of_prepare g m c b FlushesFirstLog) Succeeded now may new_now new_may
@@ -101,8 +102,8 @@ module _ (g : Geometry) (m : Memory) (now new_now : Contents) (may new_may : Can
   ends_led c b is given does = answer_led (record m { phase = Checkpoint; hand = Empty; clean = true }) (λ r. outcomes.Done) (λ r. Prepares ∷ []) (λ r new.
       disk_led g Checkpoint m.kinds m.log f.pending now new_now new_may new_may does.0 refl
       (subst (λ o. IsLedIn g Checkpoint m.kinds o now new_may f.pending) (sym log.1)
-      (flushed_led g s.sizes Checkpoint m.kinds log.0 now new_may f.pending does.1 (given log.0 log.1) log.2.current_inside log.2.current
-      (λ x up on. l.others x up on (now x) (s.held x on)) (l.current log.0 log.1 (now log.0.current) (s.held log.0.current log.2.current_inside)))))
+      (flushed_led g s.memory.sizes Checkpoint m.kinds log.0 now new_may f.pending does.1 (given log.0 log.1) log.2.sound.generation.current_inside log.2.sound.current
+      (λ x up on. l.others x up on (now x) (s.held x on)) (l.current log.0 log.1 (now log.0.current) (s.held log.0.current log.2.sound.generation.current_inside)))))
     where
       log : LogKept g m now may f Arming
       log = log_in_arming g m now may f s is
@@ -127,11 +128,11 @@ module _ (g : Geometry) (m : Memory) (now new_now : Contents) (may new_may : Can
 
   -- where the log in memory lies
   found_log : (again : Bool) → FoundIn m again → (log : Generation) × (m.log ≡ Some log) × (log.current < g.blocks) × (log.current ≢ 0)
-  found_log false is = let log = log_in_checkpoint g m now may f s is in (log.0, log.1, log.2.current_inside, above log.0 log.2.leaves.log.behind.valid)
+  found_log false is = let log = log_in_checkpoint g m now may f s is in (log.0, log.1, log.2.sound.generation.current_inside, above log.0 log.2.leaves.log.behind.valid)
     where
       above : (o : Generation) → IsGeneration g o → o.current ≢ 0
       above o valid z = omega (arith, valid.current_not_0, z)
-  found_log true is = let log = log_in_deciding g m now may f s is in (log.0, log.1, log.2.current_inside, above log.0 log.2.leaves.log.behind.valid)
+  found_log true is = let log = log_in_deciding g m now may f s is in (log.0, log.1, log.2.sound.generation.current_inside, above log.0 log.2.leaves.log.behind.valid)
     where
       above : (o : Generation) → IsGeneration g o → o.current ≢ 0
       above o valid z = omega (arith, valid.current_not_0, z)
@@ -140,17 +141,17 @@ module _ (g : Geometry) (m : Memory) (now new_now : Contents) (may new_may : Can
   all_flushed : (again : Bool) → FoundIn m again → IsFlushed g now new_may → IsLedIn g m.phase m.kinds m.log now new_may f.pending
   all_flushed again is flushed =
       let log = found_log again is in
-      flushed_so g s.sizes m.phase m.kinds m.log now may new_may f.pending s.held flushed (λ o some. subst (λ (x : Generation). x.current < g.blocks) (some_inj (sym log.1 ∙ some)) log.2) l
+      flushed_so g s.memory.sizes m.phase m.kinds m.log now may new_may f.pending s.held flushed (λ o some. subst (λ (x : Generation). x.current < g.blocks) (some_inj (sym log.1 ∙ some)) log.2) l
 
   -- the content that decides begins with no magic
   plain : (again : Bool) → FoundIn m again → (content : List ℕ) → content ≡ now (place_of m 0) → HasMagic content → ⊥
-  plain again is content read = may_plain (f.current 0) content s.state.current_0 (subst (May (f.current 0)) (sym read) (s.shown 0 (omega (arith, s.sizes.enough))))
+  plain again is content read = may_plain (f.current 0) content s.state.current_0 (subst (May (f.current 0)) (sym read) (s.shown 0 (omega (arith, s.memory.sizes.enough))))
 
   -- it is written for the first time
   decides_led : (content : List ℕ) → m.phase ≡ Checkpoint → IsFlushed g now may → content ≡ now (place_of m 0) → Does g (call_of_commit m (WritesBlock0 content)) Succeeded now may new_now new_may
       → StepLed g new_now new_may f (commit_step m t false (WritesBlock0 content) Succeeded)
   decides_led content is flushed read does new =
-      zeroth_written g s.sizes Deciding m.kinds m.kinds m.log m.log now new_now may new_may f.current content does.0.given before (λ ne. refl) (λ at. plain false is content read) (λ x at. at)
+      zeroth_written g s.memory.sizes Deciding m.kinds m.kinds m.log m.log now new_now may new_may f.current content does.0.given before (λ ne. refl) (λ at. plain false is content read) (λ x at. at)
       (λ head begins spells. begins_not content (plain false is content read) begins)
       (λ o some. (λ z. (found_log false is).3 (ap (λ (x : Generation). x.current) (some_inj (sym (found_log false is).1 ∙ some)) ∙ z), before.current o some))
       (λ at o some. absurd (grind arith))
@@ -160,15 +161,15 @@ module _ (g : Geometry) (m : Memory) (now new_now : Contents) (may new_may : Can
 
       before : IsLedIn g Deciding m.kinds m.log now may f.current
       before = subst (λ o. IsLedIn g Deciding m.kinds o now may f.current) (sym log.1)
-          (flushed_led g s.sizes Deciding m.kinds log.0 now may f.current flushed (l.led is log.0 log.1) log.2.current_inside log.2.current
+          (flushed_led g s.memory.sizes Deciding m.kinds log.0 now may f.current flushed (l.led is log.0 log.1) log.2.sound.generation.current_inside log.2.sound.current
           (λ x up on. subst (λ p. May (f.current x) (now p)) (ap (λ o. place_with o x) log.1 ∙ place_other log.0 x (λ z. omega (arith, z, up))) (s.shown x on))
-          (subst (λ p. May (f.current 0) (now p)) (ap (λ o. place_with o 0) log.1) (s.shown 0 (omega (arith, s.sizes.enough)))))
+          (subst (λ p. May (f.current 0) (now p)) (ap (λ o. place_with o 0) log.1) (s.shown 0 (omega (arith, s.memory.sizes.enough)))))
 
   -- and once more
   decides_again : (content : List ℕ) → m.phase ≡ Deciding → content ≡ now (place_of m 0) → Does g (call_of_commit m (WritesBlock0 content)) Succeeded now may new_now new_may
       → StepLed g new_now new_may f (commit_step m t true (WritesBlock0 content) Succeeded)
   decides_again content is read does new =
-      zeroth_written g s.sizes Deciding m.kinds m.kinds m.log m.log now new_now may new_may f.pending content does.0.given (subst (λ p. IsLedIn g p m.kinds m.log now may f.pending) is l) (λ ne. refl) (λ at. plain true is content read) (λ x at. at)
+      zeroth_written g s.memory.sizes Deciding m.kinds m.kinds m.log m.log now new_now may new_may f.pending content does.0.given (subst (λ p. IsLedIn g p m.kinds m.log now may f.pending) is l) (λ ne. refl) (λ at. plain true is content read) (λ x at. at)
       (λ head begins spells. begins_not content (plain true is content read) begins)
       (λ o some. (λ z. (found_log true is).3 (ap (λ (x : Generation). x.current) (some_inj (sym (found_log true is).1 ∙ some)) ∙ z), l.current o some))
       (λ at o some. absurd (grind arith))
@@ -197,10 +198,10 @@ hand_led g m now new_now may new_may f Empty reply is command s l does ok = absu
 hand_led g m now new_now may new_may f (Batching b) reply is command s l does ok = absurd (grind arith)
 hand_led g m now new_now may new_may f (Preparing t c b act) reply is command s l does ok =
     let held = subst (λ h. HandHeld g m h now may m.log) is s.in_hand in
-    prepare_led g m now new_now may new_may f s l t held.1 c b act reply held.0 does (λ e. not_failed _ reply e ok)
+    prepare_led g m now new_now may new_may f s l t Prepare held.1 c b act reply held.0 does (λ e. not_failed _ reply e ok)
 hand_led g m now new_now may new_may f (Committing t again act) reply is command s l does ok =
     let held = subst (λ h. HandHeld g m h now may m.log) is s.in_hand in
-    commit_led g m now new_now may new_may f s l t held.1 again act reply held.0 does (λ e. not_failed _ reply e ok)
+    commit_led g m now new_now may new_may f s l t Commit held.1 again act reply held.0 does (λ e. not_failed _ reply e ok)
 
 -- the memory in which the turn acts is led where the one before it is
 abbrev ActsLed : Geometry → Contents → Candidates → Flat → Task → Type 0

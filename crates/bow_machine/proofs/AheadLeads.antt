@@ -237,7 +237,7 @@ plain_led g m now may f s is = go m.phase is refl m.log refl s.kept
     }
       where
         plain : (v : List ℕ) → Contains (may 0) v → HasMagic v → ⊥
-        plain v h = may_plain (f.pending 0) v s.state.pending_0 (pending 0 (omega (arith, s.sizes.enough)) v h)
+        plain v h = may_plain (f.pending 0) v s.state.pending_0 (pending 0 (omega (arith, s.memory.sizes.enough)) v h)
 
     go : (p : Phase) → (p ≡ Trim) ⊎ (p ≡ Committed) → m.phase ≡ p → (o : Option Generation) → m.log ≡ o → Kept g m now may f p o → IsLed g m now may f
     go Trim is at None none k = made (λ c. absurd (let clash : Trim ≡ Checkpoint = sym at ∙ c in grind arith)) none k.0

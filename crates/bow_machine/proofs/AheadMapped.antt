@@ -87,14 +87,14 @@ module _ (g : Geometry) (m : Memory) (now new_now : Contents) (may new_may : Can
         let k = standing_in g m now may f log Checkpoint is some s in
         let place : place_of m b ≡ log.current = ap (place_of m) z ∙ ap (λ o. place_with o 0) some in
         let above : log.current ≢ 0 = λ e. let valid = k.leaves.log.behind.valid in omega (arith, valid.current_not_0, e) in
-        subst Written (sym z) (place_written g s.sizes m.phase m.kinds m.log now new_now may new_may f.pending log.current v
-        (subst (λ p. WriteGiven p v now new_now may new_may) place write) l above is (k.hidden log.current k.current_inside (inr (inr k.current))).1)
+        subst Written (sym z) (place_written g s.memory.sizes m.phase m.kinds m.log now new_now may new_may f.pending log.current v
+        (subst (λ p. WriteGiven p v now new_now may new_may) place write) l above is (k.hidden log.current k.sound.generation.current_inside (inr (inr k.sound.current))).1)
 
     at_open : (log : Generation) → m.log ≡ Some log → b ≢ 0 → Written b
-    at_open log some ne = open_written g s.sizes m.phase m.kinds m.log now new_now may new_may f.pending b v
+    at_open log some ne = open_written g s.memory.sizes m.phase m.kinds m.log now new_now may new_may f.pending b v
         (subst (λ p. WriteGiven p v now new_now may new_may) (place_is m log b some ne) write) l ne is
-        (kinds_written m.phase m.kinds b) is_open (λ x other. written_other m.phase m.kinds b x (omega (arith, on, s.table.size)) other)
-        (λ o is_o e. open_not_current (kind_at m.kinds b) is_open (ap (kind_at m.kinds) (sym e) ∙ (standing_in g m now may f o Checkpoint is is_o s).current))
+        (kinds_written m.phase m.kinds b) is_open (λ x other. written_other m.phase m.kinds b x (omega (arith, on, s.memory.table.size)) other)
+        (λ o is_o e. open_not_current (kind_at m.kinds b) is_open (ap (kind_at m.kinds) (sym e) ∙ (standing_in g m now may f o Checkpoint is is_o s).sound.current))
       where
         is_open : IsOpen (kind_at m.kinds b)
         is_open = elim (or_cases (may_be_written (kind_at m.kinds b)) ((b == 0) && not (has_move m.hand)) (subst (λ p. is_direct m p b ≡ true) is direct)) [
@@ -121,9 +121,9 @@ module _ (g : Geometry) (m : Memory) (now new_now : Contents) (may new_may : Can
       let log = log_in_checkpoint g m now may f s is in
       let k = standing_in g m now may f log.0 Checkpoint is log.1 s in
       subst (λ o. IsLedIn g m.phase m.kinds o now new_may f.current) (sym log.1)
-      (flushed_led g s.sizes m.phase m.kinds log.0 now new_may f.current flushed (l.led is log.0 log.1) k.current_inside k.current
+      (flushed_led g s.memory.sizes m.phase m.kinds log.0 now new_may f.current flushed (l.led is log.0 log.1) k.sound.generation.current_inside k.sound.current
       (λ b up on. subst (λ p. May (f.current b) (now p)) (place_is m log.0 b log.1 (λ z. omega (arith, z, up))) (s.shown b on))
-      (subst (λ p. May (f.current 0) (now p)) (ap (λ o. place_with o 0) log.1) (s.shown 0 (omega (arith, s.sizes.enough)))))
+      (subst (λ p. May (f.current 0) (now p)) (ap (λ o. place_with o 0) log.1) (s.shown 0 (omega (arith, s.memory.sizes.enough)))))
 
   flushes_lead : (reply : Reply) (r : Request) → (m.phase ≢ Arming) × (m.phase ≢ Deciding) → LeadsSo reply (FlushesFor r)
   flushes_lead Succeeded r settled does ok new = settled_cases (LedAfter g new_now new_may f (step_of g now m (FlushesFor r) Succeeded)) m.phase settled
@@ -135,7 +135,7 @@ module _ (g : Geometry) (m : Memory) (now new_now : Contents) (may new_may : Can
   checkpoint_discarded : m.phase ≡ Checkpoint → (e : Extent) → IsLedIn g m.phase (kinds_discarded g m e m.phase) m.log now may (λ b. cond (discards e b) None (f.pending b))
   checkpoint_discarded is e = record {
     others = λ b up on v h. may_dropped (discards e b) (f.pending b) v (l.others b up on v h);
-    heads = λ v head h magic spells. let old = l.heads v head h magic spells in (place head.current (head_inside g s.sizes v head spells) old.0, old.1);
+    heads = λ v head h magic spells. let old = l.heads v head h magic spells in (place head.current (head_inside g s.memory.sizes v head spells) old.0, old.1);
     current = l.current;
     arming = l.arming;
     led = l.led;
@@ -150,7 +150,7 @@ module _ (g : Geometry) (m : Memory) (now new_now : Contents) (may new_may : Can
       freed x on at = elim (kind_freed m.kinds e but x on) [ inl changed ↦ absurd (changed_not_place (kind_at m.kinds x) at changed.0) | inr kept ↦ subst IsPlace0 (sym kept) at ]
 
       place : (x : ℕ) → x < g.blocks → IsPlace0 (kind_at m.kinds x) → IsPlace0 (kind_at (kinds_discarded g m e m.phase) x)
-      place x on at = subst (λ p. IsPlace0 (kind_at (kinds_discarded g m e p) x)) (sym is) (freed x (omega (arith, on, s.table.size)) at)
+      place x on at = subst (λ p. IsPlace0 (kind_at (kinds_discarded g m e p) x)) (sym is) (freed x (omega (arith, on, s.memory.table.size)) at)
 
   discards_lead : (reply : Reply) (r : Request) → (m.phase ≢ Arming) × (m.phase ≢ Deciding) → LeadsSo reply (DiscardsFor r)
   discards_lead reply r settled does ok new = settled_cases (LedAfter g new_now new_may f (step_of g now m (DiscardsFor r) reply)) m.phase settled
@@ -197,7 +197,7 @@ module _ (g : Geometry) (m : Memory) (now new_now : Contents) (may new_may : Can
     where
       go : (found : Option Request) → request_of ticket m.requests ≡ found → Leads g m now may new_now new_may f reply (map_task g m found)
       go None is = waits_lead reply
-      go (Some r) is = task_leads reply r (found_request ticket m.requests r s.requests is) r.op refl
+      go (Some r) is = task_leads reply r (found_request ticket m.requests r s.memory.requests is) r.op refl
 
   -- nothing done, or a request answered
   pub nothing_leads : (reply : Reply) → Leads g m now may new_now new_may f reply Waits

@@ -45,19 +45,19 @@ module _ (g : Geometry) (m : Memory) (log : Generation) (f : Flat) (now new_now 
 
   -- A clean log's current place alone is a place of block 0, so other kinds may change.
   other_kinds : m.clean ≡ true → (new : List Kind) → kind_at new log.current ≡ kinds.Current → IsLedIn g Checkpoint new (Some log) now may f.pending
-  other_kinds clean new current = kinds_led g s.sizes Checkpoint m.kinds new (Some log) now may f.pending
-      (λ x on at. saved_not (IsPlace0 (kind_at new x)) (kind_at m.kinds x) at (k.none_saved clean x on) (λ is. inl (ap (kind_at new) (k.only_current x on is) ∙ current))) l
+  other_kinds clean new current = kinds_led g s.memory.sizes Checkpoint m.kinds new (Some log) now may f.pending
+      (λ x on at. saved_not (IsPlace0 (kind_at new x)) (kind_at m.kinds x) at (k.sound.none_saved clean x on) (λ is. inl (ap (kind_at new) (k.sound.only_current x on is) ∙ current))) l
 
   -- a batch for which blocks are picked, or the answer that there are none
   picks_led : m.clean ≡ true → (r : Request) (job : Extent → Job) (slots : List (List ℕ)) → ((e : Extent) → 0 < lead (job e)) → (o : Option Extent)
       → Good (on_picked (working m Empty log) r (λ e. batch_for r (job e) slots) o)
   picks_led clean r job slots some None = answer_leads g (working m Empty log) now new_now may new_may f s l reply r (outcomes.NoSpace r.done)
   picks_led clean r job slots some (Some e) = λ does ok.
-      lead_led g s.sizes (record m { kinds = with_kind m.kinds e kinds.Backup }) r.ticket log f now new_now may new_may s.held reply slots (job e) 0 (some e) (other_kinds clean (with_kind m.kinds e kinds.Backup)) does ok
+      lead_led g s.memory.sizes (record m { kinds = with_kind m.kinds e kinds.Backup }) r.ticket log f now new_now may new_may s.held reply slots (job e) 0 (some e) (other_kinds clean (with_kind m.kinds e kinds.Backup)) does ok
 
   formed_led : (r : Request) (e : Extent) → Good (formed g (working m Empty log) r e log)
   formed_led r e = cond_both (not m.clean) _ _ Good
-      (λ dirty does ok. log_led g s.sizes m r.ticket log f now new_now may new_may s.held [] k.current_inside s.table.size l jobs.Rewrite tt reply does ok)
+      (λ dirty does ok. log_led g s.memory.sizes m r.ticket log f now new_now may new_may s.held [] k.sound.generation.current_inside s.memory.table.size l jobs.Rewrite tt reply does ok)
       (λ is. let clean : m.clean ≡ true = not-false m.clean is in
       cond_both (is_kind_current (kind_at m.kinds (e.first + r.done))) _ _ Good
       (λ current. picks_led clean r (λ to. jobs.Move (e.first + r.done) to.first) [] (λ to. omega arith) (picked m.kinds 1))

@@ -69,14 +69,11 @@ module _ (g : Geometry) (m : Memory) (log : Generation) (now : Contents) (may : 
   faulted f r not_0 w = (
     (tt, tt),
     record {
-      sizes = w.sizes;
+      memory = record { sizes = w.memory.sizes; table = w.memory.table; requests = each_without r.ticket m.requests w.memory.requests; tickets = own_without r.ticket m.requests w.memory.tickets };
       state =
           stays_valid g.blocks (Fails block content) f w.state tt
           (phase_not Arming (λ e. absurd (grind arith)), phase_not Deciding (λ e. absurd (grind arith)), λ z. absurd (not_0 z));
       phases = w.phases;
-      table = w.table;
-      requests = each_without r.ticket m.requests w.requests;
-      tickets = own_without r.ticket m.requests w.tickets;
       held = w.held;
       shown = λ x on. put_at (λ c. May c (now (place_with (Some log) x))) f.current block (added (f.current block) content) x
           (λ is. may_added (f.current block) content _ (subst (λ y. May (f.current y) (now (place_with (Some log) x))) is (w.shown x on)))

@@ -17,7 +17,7 @@ use Rattle.bow_machine.specs.Memory.{Memory}
 use Rattle.bow_machine.specs.Calls.{Reply, Does}
 use Rattle.bow_machine.specs.Steps.{batch_step, call_of_act}
 use Rattle.bow_machine.specs.MemoryIsSound.{ForWrite}
-use Rattle.bow_machine.proofs.Held.{CopyHeld}
+use Rattle.bow_machine.proofs.Held.{CopyHeld, copy_on}
 use Rattle.bow_machine.proofs.BatchActs.{lead, running, lead_copy, copy_reads, copy_writes, copy_flush}
 use Rattle.bow_machine.proofs.BatchStands.{Working}
 use Rattle.bow_machine.proofs.Hands.{Keeps}
@@ -50,7 +50,7 @@ module _ (g : Geometry) (m : Memory) (source dest count : ℕ) (slots : List (Li
   CopyInHand done buffer i j = CopyHeld g (at_work m job done buffer t log) log source dest count done buffer i j
 
   picked : (done : ℕ) → CopyInHand done slots now may → PicksStand g m job
-  picked done h = record { inside = h.dest_inside; backup = h.dests }
+  picked done h = record { inside = h.ready.dest_inside; backup = h.ready.dests }
 
   -- the act that is next makes this call
   at_call : (done : ℕ) (reply : Reply) (act : Act) → next_act (running job done) ≡ act
@@ -70,22 +70,14 @@ module _ (g : Geometry) (m : Memory) (source dest count : ℕ) (slots : List (Li
         lead_reads g m job slots t log f done (omega (arith, lead_copy source dest count, below)) write (picked done h) now new_now may new_may w
         (source + done) reply
         (λ v is. (held v is, clean))
-        (at_call done reply _ (copy_reads source dest count done below (omega (arith, h.source_inside, w.sizes.few, below))) does)
+        (at_call done reply _ (copy_reads source dest count done below (omega (arith, h.ready.source_inside, w.memory.sizes.few, below))) does)
       where
         at_end : length slots ≡ done
-        at_end = omega (arith, h.buffer, below)
+        at_end = omega (arith, h.ready.buffer, below)
 
         held : (v : List ℕ) → v ≡ now (source + done) → CopyInHand (done + 1) (slots ++ v ∷ []) now may
         held v is = record {
-          some = h.some;
-          few = h.few;
-          not_full = h.not_full;
-          source_inside = h.source_inside;
-          dest_inside = h.dest_inside;
-          sources = h.sources;
-          dests = h.dests;
-          apart = h.apart;
-          buffer = omega (arith, length-append slots (v ∷ []), at_end, below);
+          ready = copy_on g m.kinds log source dest count done (done + 1) slots (slots ++ v ∷ []) (omega (arith, length-append slots (v ∷ []), at_end, below)) h.ready;
           read = read_more now source slots v (is ∙ ap (λ i. now (source + i)) (sym at_end)) h.read;
           wrote = λ j under late. absurd (omega (arith, below, late));
           durable = λ late. absurd (omega (arith, below, late));
@@ -96,26 +88,18 @@ module _ (g : Geometry) (m : Memory) (source dest count : ℕ) (slots : List (Li
     writes i below at =
         lead_writes g m job slots t log f done (omega (arith, lead_copy source dest count, below, at)) write
         (picked done h) now new_now may new_may w (dest + i) (get_or slots i []) reply
-        (omega (arith, h.dest_inside, below)) (h.dests i below) (holds_at dest count i below)
+        (omega (arith, h.ready.dest_inside, below)) (h.ready.dests i below) (holds_at dest count i below)
         (λ tried is. (held tried.given.others_now is, clean))
-        (at_call done reply _ (ap (λ d. next_act (running job d)) at ∙ copy_writes source dest count i below (omega (arith, h.dest_inside, w.sizes.few, below))) does)
+        (at_call done reply _ (ap (λ d. next_act (running job d)) at ∙ copy_writes source dest count i below (omega (arith, h.ready.dest_inside, w.memory.sizes.few, below))) does)
       where
         full : length slots ≡ count
-        full = omega (arith, h.buffer, at)
+        full = omega (arith, h.ready.buffer, at)
 
         held : ((x : ℕ) → x ≢ dest + i → new_now x ≡ now x) → new_now (dest + i) ≡ get_or slots i []
             → CopyInHand (done + 1) slots new_now new_may
         held others is = record {
-          some = h.some;
-          few = h.few;
-          not_full = h.not_full;
-          source_inside = h.source_inside;
-          dest_inside = h.dest_inside;
-          sources = h.sources;
-          dests = h.dests;
-          apart = h.apart;
-          buffer = omega (arith, full, at);
-          read = λ j under. others (source + j) (λ e. absurd (omega (arith, h.apart, e, under, full, below))) ∙ h.read j under;
+          ready = copy_on g m.kinds log source dest count done (done + 1) slots slots (omega (arith, full, at)) h.ready;
+          read = λ j under. others (source + j) (λ e. absurd (omega (arith, h.ready.apart, e, under, full, below))) ∙ h.read j under;
           wrote = λ j under late. elim (cases_eq j i) [
             | inl same ↦ subst (λ n. new_now (dest + n) ≡ get_or slots n []) (sym same) is
             | inr other ↦ others (dest + j) (λ e. other (omega (arith, e))) ∙ h.wrote j under (omega (arith, late, other, at))
@@ -129,18 +113,10 @@ module _ (g : Geometry) (m : Memory) (source dest count : ℕ) (slots : List (Li
         lead_flushes g m job slots t log f done (omega (arith, lead_copy source dest count, at)) write (picked done h) now new_now may new_may w reply
         (λ flushed. (
           record {
-            some = h.some;
-            few = h.few;
-            not_full = h.not_full;
-            source_inside = h.source_inside;
-            dest_inside = h.dest_inside;
-            sources = h.sources;
-            dests = h.dests;
-            apart = h.apart;
-            buffer = omega (arith, h.buffer, at, h.some);
+            ready = copy_on g m.kinds log source dest count done (done + 1) slots slots (omega (arith, h.ready.buffer, at, h.ready.some)) h.ready;
             read = h.read;
             wrote = λ j under late. h.wrote j under (omega (arith, at, under));
-            durable = λ late j under. flushed (dest + j) (omega (arith, h.dest_inside, under));
+            durable = λ late j under. flushed (dest + j) (omega (arith, h.ready.dest_inside, under));
           },
           clean,
         ))

@@ -1,12 +1,12 @@
 -- A batch that backs up blocks: its log has one backup more, for all of them.
-use Rattle.std.proofs.Common.{ℕ, zero, suc, ◌+◌, ◌-◌, ◌*◌, ◌^◌, ◌<◌, ◌≤◌, ◌≡◌, ◌≢◌, ◌⊎◌, true, false, List, [], ◌∷◌, ◌++◌, length, get_or, Some, arith, refl, sym, ap, ap₂, ◌∙◌, subst, inl, inr, length-append}
+use Rattle.std.proofs.Common.{ℕ, zero, suc, ◌+◌, ◌-◌, ◌*◌, ◌<◌, ◌≤◌, ◌≡◌, ◌⊎◌, true, false, List, [], ◌∷◌, ◌++◌, length, get_or, Some, arith, refl, sym, ap, ap₂, ◌∙◌, subst, inl, inr}
 use Rattle.bow_units.specs.declared.sizes.Geometry.{Geometry}
 use Rattle.bow_units.specs.declared.sizes.Extent.{Extent}
 use Rattle.bow_units.specs.declared.requests.Phase.TheVariants.{Checkpoint}
 use Rattle.bow_units.specs.declared.statuses.Kind.{Kind}
-use Rattle.bow_units.specs.declared.statuses.Kind.TheVariants.{Sector0, Current, Unchanged, Backup as BackupKind, Saved}
+use Rattle.bow_units.specs.declared.statuses.Kind.TheVariants.{Sector0, Backup as BackupKind, Saved}
 use Rattle.bow_flat.specs.Flat.{Flat}
-use Rattle.bow_log.specs.Generations.{Backup, Generation, IsBackup, StartsWith0, IsGeneration, GenerationFits}
+use Rattle.bow_log.specs.Generations.{Backup, Generation, IsBackup}
 use Rattle.bow_chain.specs.Contents.{Contents, run_of}
 use Rattle.bow_chain.specs.Places.{hop, InSource, InDest}
 use Rattle.bow_chain.specs.Sound.{log_in, sum_at}
@@ -19,18 +19,19 @@ use Rattle.bow_guard.specs.Device.{Device, LogGiven}
 use Rattle.bow_guard.specs.Guard.{Guarded}
 use Rattle.bow_guard.proofs.Device.{copy_logged}
 use Rattle.bow_queue.specs.declared.tickets.Ticket.{Ticket}
-use Rattle.bow_ranges.specs.Kinds.{kind_at, with_kind, holds, is_free, count_of}
-use Rattle.bow_machine.specs.Memory.{Memory, Empty, reserved, may_be_written}
+use Rattle.bow_ranges.specs.Kinds.{kind_at, with_kind, holds}
+use Rattle.bow_machine.specs.Memory.{Memory, Empty, reserved}
 use Rattle.bow_machine.specs.Calls.{Reply, WriteTried, Does}
 use Rattle.bow_machine.specs.Tasks.{spelling}
 use Rattle.bow_machine.specs.Steps.{copy_entry, batch_step, call_of_act}
-use Rattle.bow_machine.specs.MemoryIsSound.{is_touched, ForWrite}
-use Rattle.bow_machine.proofs.Held.{device_of, IsKept, IsHidden}
-use Rattle.bow_machine.proofs.Spelled.{spelled, sum_small}
-use Rattle.bow_machine.proofs.RequestLists.{each_append}
-use Rattle.bow_machine.proofs.Tables.{holds_cases, kind_in, kind_out, count_with, count_part, table_with}
+use Rattle.bow_machine.specs.MemoryIsSound.{ForWrite}
+use Rattle.bow_machine.proofs.Held.{device_of, IsKept, IsHidden, copy_on}
+use Rattle.bow_machine.proofs.Spelled.{spelled}
+use Rattle.bow_machine.proofs.Tables.{holds_cases, kind_in, kind_out}
 use Rattle.bow_machine.proofs.BatchActs.{lead, running, lead_copy, log_act}
-use Rattle.bow_machine.proofs.BatchStands.{working, Working, holds_none, above_0}
+use Rattle.bow_machine.proofs.BatchStands.{working, Working, holds_none}
+use Rattle.bow_machine.proofs.SoundLogs.{above_0, source_not_0, LogChange, copy_change}
+use Rattle.bow_machine.specs.MemoryIsSound.{LogIsSound}
 use Rattle.bow_machine.proofs.Hands.{Keeps}
 use Rattle.bow_machine.proofs.BatchSteps.{batch_at, batching, at_work, reserves}
 use Rattle.bow_machine.proofs.BatchLogs.{log_changed, log_keeps}
@@ -46,23 +47,6 @@ run_is now first (suc n) (v ∷ vs) long same =
     let here : first + 0 ≡ first = omega arith in
     ap₂ ◌∷◌ (ap now (sym here) ∙ same 0 (omega arith))
     (run_is now (suc first) n vs (omega arith) (λ j below. let next : suc first + j ≡ first + suc j = omega arith in ap now next ∙ same (suc j) (omega arith)))
-
-pub start_more : (entries : List Backup) (b : Backup) → 0 < b.source → StartsWith0 entries → StartsWith0 (entries ++ b ∷ [])
-start_more [] b above h = absurd h
-start_more (e ∷ es) b above h = (h.0, h.1, each_append (λ (other : Backup). 0 < other.source) es (b ∷ []) h.2 (above, tt))
-
--- a kind from which blocks are copied
-pub source_not_0 : (k : Kind) → (k ≡ Unchanged) ⊎ (k ≡ BackupKind) → k ≢ Sector0
-source_not_0 k h = grind arith
-
-pub source_not_current : (k : Kind) → (k ≡ Unchanged) ⊎ (k ≡ BackupKind) → k ≢ Current
-source_not_current k h = grind arith
-
-pub source_not_free : (k : Kind) → (k ≡ Unchanged) ⊎ (k ≡ BackupKind) → is_free k ≡ false
-source_not_free k h = grind arith
-
-pub source_not_touched : (k : Kind) → (k ≡ Unchanged) ⊎ (k ≡ BackupKind) → is_touched k ≡ false
-source_not_touched k h = grind arith
 
 module _ (g : Geometry) (m : Memory) (source dest count : ℕ) (slots : List (List ℕ)) (t : Ticket) (log : Generation)
     (f : Flat) (now new_now : Contents) (may new_may : Candidates) where
@@ -90,26 +74,26 @@ module _ (g : Geometry) (m : Memory) (source dest count : ℕ) (slots : List (Li
     k = w.kept
 
     full : length slots ≡ count
-    full = omega (arith, h.buffer, lead_copy source dest count)
+    full = omega (arith, h.ready.buffer, lead_copy source dest count)
 
     late : 2 * count < lead job
     late = omega (arith, lead_copy source dest count)
 
     fits : source + count ≤ length m.kinds
-    fits = omega (arith, h.source_inside, w.table.size)
+    fits = omega (arith, h.ready.source_inside, w.memory.table.size)
 
     first : (b : ℕ) → b + 0 ≡ b
     first b = omega arith
 
     source_above : 0 < source
     source_above =
-        above_0 m.kinds source w.table.zeroth
-        (λ is. source_not_0 _ (h.sources 0 h.some) (ap (kind_at m.kinds) (first source) ∙ is))
+        above_0 m.kinds source w.memory.table.zeroth
+        (λ is. source_not_0 _ (h.ready.sources 0 h.ready.some) (ap (kind_at m.kinds) (first source) ∙ is))
 
     dest_above : 0 < dest
     dest_above =
-        above_0 m.kinds dest w.table.zeroth
-        (λ is. let clash : BackupKind ≡ Sector0 = sym (h.dests 0 h.some) ∙ ap (kind_at m.kinds) (first dest) ∙ is in absurd (grind arith))
+        above_0 m.kinds dest w.memory.table.zeroth
+        (λ is. let clash : BackupKind ≡ Sector0 = sym (h.ready.dests 0 h.ready.some) ∙ ap (kind_at m.kinds) (first dest) ∙ is in absurd (grind arith))
 
     -- a source is saved, and each other block has its old kind
     pub each_kind : (P : ℕ → Kind → Type 0) → ((j : ℕ) → j < count → P (source + j) Saved)
@@ -129,39 +113,22 @@ module _ (g : Geometry) (m : Memory) (source dest count : ℕ) (slots : List (Li
     ]
 
     backup_ok : IsBackup g entry
-    backup_ok = record { some = h.some; source_inside = h.source_inside; dest_inside = h.dest_inside; apart = h.apart; dest_not_0 = dest_above }
-
-    new_ok : IsGeneration g new
-    new_ok =
-        let v = k.leaves.log.behind.valid in
-        record
-        { few = omega (arith, h.not_full, length-append log.entries (entry ∷ [])); current_not_0 = v.current_not_0; current_inside = v.current_inside; each = each_append (IsBackup g) log.entries (entry ∷ []) v.each (backup_ok, tt); start = start_more log.entries entry source_above v.start }
-
-    new_fits : GenerationFits new
-    new_fits = record { sequence = k.fits.sequence; sums = each_append (λ (b : Backup). b.sum < 2 ^ 32) log.entries (entry ∷ []) k.fits.sums (sum_small source slots, tt) }
-
-    current_out : InSource entry log.current → ⊥
-    current_out i = let there : source + (log.current - source) ≡ log.current = omega arith in source_not_current _ (h.sources (log.current - source) (omega arith)) (ap (kind_at m.kinds) there ∙ k.current)
+    backup_ok = record { some = h.ready.some; source_inside = h.ready.source_inside; dest_inside = h.ready.dest_inside; apart = h.ready.apart; dest_not_0 = dest_above }
 
     was_reserved : reserved (batching job (lead job) slots t) ≡ dest_extent
     was_reserved = reserves job (lead job) slots t (omega arith)
 
-    room : count_of is_free kinds + 2 + log.sequence + count_of is_touched kinds + 0 ≡ m.trimmed
-    room =
-        let free = count_with m.kinds source_extent Saved is_free fits in
-        let free_part = count_part m.kinds source count is_free false fits (λ j below. source_not_free _ (h.sources j below)) in
-        let touched = count_with m.kinds source_extent Saved is_touched fits in
-        let touched_part = count_part m.kinds source count is_touched false fits (λ j below. source_not_touched _ (h.sources j below)) in
-        let taken : (reserved (batching job (lead job) slots t)).count ≡ count = ap (λ (e : Extent). e.count) was_reserved in
-        omega (arith, free, free_part, touched, touched_part, taken, k.room)
+    change : LogChange g m.kinds m.trimmed log job slots
+    change = copy_change g m.kinds m.clean m.trimmed log slots w.memory.sizes w.memory.table source dest count
+        (copy_on g m.kinds log source dest count (lead job) (2 * count + 1) slots slots (omega (arith, full)) h.ready) (subst (λ (e : Extent). LogIsSound g m.kinds m.clean m.trimmed e.count log) was_reserved k.sound)
 
     pub copy_spelled : log_in g (spelling g new) ≡ Some new
-    copy_spelled = spelled g new w.sizes new_ok new_fits
+    copy_spelled = spelled g new w.memory.sizes change.sound.generation change.sound.fits
 
     -- the older logs are the same behind it
     pub copy_guarded : WriteTried 0 (spelling g new) now new_now may new_may
         → Guarded g f.used f.saved (device_of (working (record m { kinds = kinds; clean = false }) Empty new) new k.older k.clean_log k.clean_older new_now new_may)
-    copy_guarded tried = copy_logged g f.used f.saved before after entry backup_ok given (k.clean clean) k.leaves refl refl new_ok made sum
+    copy_guarded tried = copy_logged g f.used f.saved before after entry backup_ok given (k.clean clean) k.leaves refl refl change.sound.generation made sum
       where
         before : Device
         before =
@@ -178,7 +145,7 @@ module _ (g : Geometry) (m : Memory) (source dest count : ℕ) (slots : List (Li
         dest_below x i = omega arith
 
         dest_not_source : (x : ℕ) → InDest entry x → InSource entry x → ⊥
-        dest_not_source x i j = omega (arith, h.apart)
+        dest_not_source x i j = omega (arith, h.ready.apart)
 
         dest_holds : (x : ℕ) → InDest entry x → holds dest_extent x ≡ true
         dest_holds x i = elim (holds_cases dest_extent x) [ inl (low, high, held) ↦ held | inr (out, held) ↦ absurd (omega (arith, out, i)) ]
@@ -202,7 +169,7 @@ module _ (g : Geometry) (m : Memory) (source dest count : ℕ) (slots : List (Li
           dest_picked = λ x i. picked_is x ∙ dest_holds x i;
           dest_flushed = durable;
           dest_given = λ x i. holds_none x;
-          dest_kind = λ x i. kept_kind x (dest_not_source x i) ∙ ap (kind_at m.kinds) (sym (to_dest x i)) ∙ h.dests (x - dest) (dest_below x i);
+          dest_kind = λ x i. kept_kind x (dest_not_source x i) ∙ ap (kind_at m.kinds) (sym (to_dest x i)) ∙ h.ready.dests (x - dest) (dest_below x i);
           others_picked = λ x out. holds_none x ∙ sym (picked_is x ∙ dest_holds_not x out);
           source_kind = λ x some i. kind_in m.kinds source_extent Saved x fits i.above i.below;
           others_kind = λ x out not_dest. kept_kind x out;
@@ -229,11 +196,9 @@ module _ (g : Geometry) (m : Memory) (source dest count : ℕ) (slots : List (Li
     copy_logs tried =
         log_changed g m log new kinds (batching job (lead job) slots t) now new_now may new_may f (spelling g new) k.older w tried
         (copy_guarded tried)
-        (table_with g m.kinds source_extent Saved (λ e. absurd (grind arith)) h.source_inside (inl source_above) w.table)
-        k.own new_fits (kept_kind log.current current_out ∙ k.current) k.current_inside
-        (each_kind (λ x kind. x < g.blocks → kind ≡ Current → x ≡ log.current) (λ j below on is. absurd (grind arith)) (λ x out on is. k.only_current x on is))
+        change.is_table change.sound
         (each_kind (λ x kind. IsHidden kind → IsHidden (kind_at m.kinds x)) (λ j below hidden. absurd (grind arith)) (λ x out hidden. hidden))
-        refl room
+        refl
 
   pub copy_keeps : (reply : Reply) → ForWrite g (at_work m job (lead job) slots t log) t
       → CopyInHand g m source dest count slots t log f now new_now may new_may (lead job) slots now may × (m.clean ≡ true)
@@ -241,6 +206,6 @@ module _ (g : Geometry) (m : Memory) (source dest count : ℕ) (slots : List (Li
       → Does g (call_of_act g (at_work m job (lead job) slots t log) (batch_at job (lead job) slots t) (next_act (running job (lead job)))) reply now may new_now new_may
       → Keeps g new_now new_may f (batch_step g (at_work m job (lead job) slots t log) (batch_at job (lead job) slots t) reply)
   copy_keeps reply write h w does = log_keeps g m job slots t log f now new_now may new_may reply write
-      (each_kind h.0 h.1 w (λ x kind. may_be_written (kind_at m.kinds x) ≡ false → may_be_written kind ≡ false) (λ j below held. refl) (λ x out held. held))
+      (change h.0 h.1 w).kept_back
       (copy_spelled h.0 h.1 w) (copy_logs h.0 h.1 w)
       (subst (λ a. Does g (call_of_act g (at_work m job (lead job) slots t log) (batch_at job (lead job) slots t) a) reply now may new_now new_may) (log_act job) does)

@@ -1,10 +1,10 @@
 -- A batch that keeps the full log in a picked block, and begins a new log.
-use Rattle.std.proofs.Common.{ℕ, ◌+◌, ◌<◌, ◌≤◌, ◌≡◌, true, false, List, [], ◌∷◌, length, get_or, Some, arith, refl, sym, ap, ◌∙◌, subst, inl, add-one}
+use Rattle.std.proofs.Common.{ℕ, ◌+◌, ◌<◌, ◌≤◌, ◌≡◌, true, false, List, [], ◌∷◌, get_or, Some, arith, refl, sym, ap, ◌∙◌, subst, add-one}
 use Rattle.bow_units.specs.declared.sizes.Geometry.{Geometry}
 use Rattle.bow_units.specs.declared.requests.Phase.TheVariants.{Checkpoint}
 use Rattle.bow_units.specs.declared.statuses.Kind.TheVariants.{Sector0, Backup as BackupKind}
 use Rattle.bow_flat.specs.Flat.{Flat}
-use Rattle.bow_log.specs.Generations.{Backup, Generation, IsBackup, StartsWith0, IsGeneration, GenerationFits}
+use Rattle.bow_log.specs.Generations.{Backup, Generation}
 use Rattle.bow_chain.specs.Contents.{Contents, run_of}
 use Rattle.bow_chain.specs.Places.{InDest}
 use Rattle.bow_chain.specs.Sound.{log_in, sum_at}
@@ -15,24 +15,21 @@ use Rattle.bow_guard.specs.Device.{Device, LogGiven}
 use Rattle.bow_guard.specs.Guard.{Guarded}
 use Rattle.bow_guard.proofs.Device.{link_logged}
 use Rattle.bow_queue.specs.declared.tickets.Ticket.{Ticket}
-use Rattle.bow_ranges.specs.Kinds.{kind_at, is_free, count_of}
+use Rattle.bow_ranges.specs.Kinds.{kind_at}
 use Rattle.bow_machine.specs.Memory.{Memory, Empty}
 use Rattle.bow_machine.specs.Calls.{Reply, WriteTried, Does}
 use Rattle.bow_machine.specs.Tasks.{spelling}
 use Rattle.bow_machine.specs.Steps.{copy_entry, log_for, batch_step, call_of_act}
-use Rattle.bow_machine.specs.MemoryIsSound.{is_touched, ForWrite}
+use Rattle.bow_machine.specs.MemoryIsSound.{ForWrite}
 use Rattle.bow_machine.proofs.Held.{device_of, IsKept, LinkHeld}
-use Rattle.bow_machine.proofs.Spelled.{spelled, sum_small}
+use Rattle.bow_machine.proofs.Spelled.{spelled}
 use Rattle.bow_machine.proofs.BatchActs.{running}
-use Rattle.bow_machine.proofs.BatchStands.{working, Working, holds_none, holds_one, holds_other, above_0}
+use Rattle.bow_machine.proofs.BatchStands.{working, Working, holds_none, holds_one, holds_other}
+use Rattle.bow_machine.proofs.SoundLogs.{above_0, LogChange, link_change}
 use Rattle.bow_machine.proofs.Hands.{Keeps}
 use Rattle.bow_machine.proofs.BatchSteps.{batch_at, batching, at_work}
 use Rattle.bow_machine.proofs.BatchLogs.{log_changed, log_keeps}
 use Rattle.bow_machine.proofs.BatchLeads.{PicksStand, lead_writes, lead_flushes}
-
-pub starts_some : (entries : List Backup) → StartsWith0 entries → 1 ≤ length entries
-starts_some [] h = absurd h
-starts_some (b ∷ bs) h = omega arith
 
 in_one : (dest x : ℕ) → dest ≤ x → x < dest + 1 → x ≡ dest
 in_one dest x low high = omega arith
@@ -45,8 +42,8 @@ module _ (g : Geometry) (m : Memory) (dest : ℕ) (slots : List (List ℕ)) (t :
 
   picked : (done : ℕ) → Held done done now may → PicksStand g m (Link dest)
   picked done h = record {
-    inside = omega (arith, h.inside);
-    backup = λ j below. let there : dest + j ≡ dest = omega arith in ap (kind_at m.kinds) there ∙ h.kind;
+    inside = omega (arith, h.ready.inside);
+    backup = λ j below. let there : dest + j ≡ dest = omega arith in ap (kind_at m.kinds) there ∙ h.ready.kind;
   }
 
   -- the full log is written to the picked block
@@ -56,8 +53,8 @@ module _ (g : Geometry) (m : Memory) (dest : ℕ) (slots : List (List ℕ)) (t :
       → Keeps g new_now new_may f (batch_step g (at_work m (Link dest) 0 slots t log) (batch_at (Link dest) 0 slots t) reply)
   link_writes reply write h w does =
       lead_writes g m (Link dest) slots t log f 0 (omega arith) write (picked 0 h.0) now new_now may new_may w dest
-      (get_or slots 0 []) reply h.0.inside h.0.kind (holds_one dest dest refl)
-      (λ tried is. (record { inside = h.0.inside; kind = h.0.kind; full = h.0.full; buffer = h.0.buffer; wrote = λ one. is ∙ ap (λ s. get_or s 0 []) h.0.buffer; durable = λ two. absurd (omega arith) }, h.1)) does
+      (get_or slots 0 []) reply h.0.ready.inside h.0.ready.kind (holds_one dest dest refl)
+      (λ tried is. (record { ready = h.0.ready; wrote = λ one. is ∙ ap (λ s. get_or s 0 []) h.0.ready.buffer; durable = λ two. absurd (omega arith) }, h.1)) does
 
   pub link_flushes : (reply : Reply) → ForWrite g (at_work m (Link dest) 1 slots t log) t
       → Held 1 1 now may × (m.clean ≡ true) → Working g m (batching (Link dest) 1 slots t) log now may f
@@ -65,7 +62,7 @@ module _ (g : Geometry) (m : Memory) (dest : ℕ) (slots : List (List ℕ)) (t :
       → Keeps g new_now new_may f (batch_step g (at_work m (Link dest) 1 slots t log) (batch_at (Link dest) 1 slots t) reply)
   link_flushes reply write h w does =
       lead_flushes g m (Link dest) slots t log f 1 (omega arith) write (picked 1 h.0) now new_now may new_may w reply
-      (λ done. (record { inside = h.0.inside; kind = h.0.kind; full = h.0.full; buffer = h.0.buffer; wrote = λ one. h.0.wrote (omega arith); durable = λ two. done dest h.0.inside }, h.1)) does
+      (λ done. (record { ready = h.0.ready; wrote = λ one. h.0.wrote (omega arith); durable = λ two. done dest h.0.ready.inside }, h.1)) does
 
   module _ (h : Held 2 2 now may) (clean : m.clean ≡ true)
       (w : Working g m (batching (Link dest) 2 slots t) log now may f) where
@@ -80,31 +77,19 @@ module _ (g : Geometry) (m : Memory) (dest : ℕ) (slots : List (List ℕ)) (t :
 
     above : 0 < dest
     above =
-        above_0 m.kinds dest w.table.zeroth
-        (λ is. let clash : BackupKind ≡ Sector0 = sym h.kind ∙ is in absurd (grind arith))
+        above_0 m.kinds dest w.memory.table.zeroth
+        (λ is. let clash : BackupKind ≡ Sector0 = sym h.ready.kind ∙ is in absurd (grind arith))
 
-    backup_ok : IsBackup g entry
-    backup_ok = record { some = omega arith; source_inside = omega (arith, w.sizes.enough); dest_inside = omega (arith, h.inside); apart = inl (omega (arith, above)); dest_not_0 = above }
-
-    room : count_of is_free m.kinds + 2 + log.sequence + count_of is_touched m.kinds + 1 ≡ m.trimmed
-    room = k.room
-
-    new_ok : IsGeneration g new
-    new_ok =
-        let valid = k.leaves.log.behind.valid in
-        record
-        { few = omega (arith, valid.few, starts_some log.entries valid.start); current_not_0 = valid.current_not_0; current_inside = valid.current_inside; each = (backup_ok, tt); start = (refl, refl, tt) }
-
-    new_fits : GenerationFits new
-    new_fits = record { sequence = omega (arith, room, k.bounded, w.sizes.few); sums = (sum_small 0 slots, tt) }
+    change : LogChange g m.kinds m.trimmed log (Link dest) slots
+    change = link_change g m.kinds m.clean m.trimmed log slots w.memory.sizes w.memory.table dest h.ready k.sound
 
     pub link_spelled : log_in g (spelling g (log_for (Link dest) slots log)) ≡ Some (log_for (Link dest) slots log)
-    link_spelled = spelled g new w.sizes new_ok new_fits
+    link_spelled = spelled g new w.memory.sizes change.sound.generation change.sound.fits
 
     -- the full log is the first older one behind it
     pub link_guarded : WriteTried 0 (spelling g (log_for (Link dest) slots log)) now new_now may new_may
         → Guarded g f.used f.saved (device_of (working (record m { clean = false }) Empty new) new (log ∷ k.older) k.clean_log k.clean_older new_now new_may)
-    link_guarded tried = link_logged g f.used f.saved before after entry backup_ok given (k.clean clean) k.leaves refl refl refl (add-one log.sequence) refl new_ok k.own made sum
+    link_guarded tried = link_logged g f.used f.saved before after entry change.sound.generation.each.0 given (k.clean clean) k.leaves refl refl refl (add-one log.sequence) refl change.sound.generation k.sound.own made sum
       where
         before : Device
         before =
@@ -127,7 +112,7 @@ module _ (g : Geometry) (m : Memory) (dest : ℕ) (slots : List (List ℕ)) (t :
           dest_picked = λ x i. holds_one dest x (at_dest x i);
           dest_flushed = λ x i. subst (λ y. may y ≡ now y ∷ []) (sym (at_dest x i)) (h.durable (omega arith));
           dest_given = λ x i. holds_none x;
-          dest_kind = λ x i. ap (kind_at m.kinds) (at_dest x i) ∙ h.kind;
+          dest_kind = λ x i. ap (kind_at m.kinds) (at_dest x i) ∙ h.ready.kind;
           others_picked = λ x out. holds_none x ∙ sym (holds_other dest x (λ low high. out (record { above = low; below = high })));
           source_kind = λ x some i. absurd (omega arith);
           others_kind = λ x not_source not_dest. refl;
@@ -135,13 +120,13 @@ module _ (g : Geometry) (m : Memory) (dest : ℕ) (slots : List (List ℕ)) (t :
         }
 
         made : log_in g (now dest) ≡ Some log
-        made = ap (log_in g) (h.wrote (omega arith)) ∙ spelled g log w.sizes k.leaves.log.behind.valid k.fits
+        made = ap (log_in g) (h.wrote (omega arith)) ∙ spelled g log w.memory.sizes k.sound.generation k.sound.fits
 
         there : new_now dest ≡ spelling g log
         there = tried.given.others_now dest (λ is. absurd (omega (arith, above))) ∙ h.wrote (omega arith)
 
         sum : sum_at 0 (run_of new_now dest 1) ≡ sum_at 0 slots
-        sum = ap (sum_at 0) (ap (λ v. v ∷ []) there ∙ sym h.buffer)
+        sum = ap (sum_at 0) (ap (λ v. v ∷ []) there ∙ sym h.ready.buffer)
 
     pub link_logs : WriteTried 0 (spelling g (log_for (Link dest) slots log)) now new_now may new_may
         → Working g (record m { clean = false }) Empty (log_for (Link dest) slots log) new_now new_may f
@@ -149,7 +134,7 @@ module _ (g : Geometry) (m : Memory) (dest : ℕ) (slots : List (List ℕ)) (t :
         log_changed g m log new m.kinds (batching (Link dest) 2 slots t) now new_now may new_may f (spelling g new)
         (log ∷ k.older) w tried
         (link_guarded tried)
-        w.table refl new_fits k.current k.current_inside k.only_current (λ b hidden. hidden) refl (omega (arith, room))
+        w.memory.table change.sound (λ b hidden. hidden) refl
 
   pub link_keeps : (reply : Reply) → ForWrite g (at_work m (Link dest) 2 slots t log) t
       → Held 2 2 now may × (m.clean ≡ true) → Working g m (batching (Link dest) 2 slots t) log now may f

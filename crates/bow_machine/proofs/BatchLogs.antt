@@ -1,12 +1,12 @@
 -- The last two acts of a batch: the log is written, and the disk is flushed.
-use Rattle.std.proofs.Common.{ℕ, ◌+◌, ◌<◌, ◌≡◌, ◌≢◌, true, false, List, map, Some, arith, refl, sym, ap, ◌∙◌, subst, inl, inr, Contains}
+use Rattle.std.proofs.Common.{ℕ, ◌+◌, ◌≡◌, ◌≢◌, true, false, List, map, Some, arith, refl, sym, ap, ◌∙◌, subst, inl, inr, Contains}
 use Rattle.std.proofs.lemmas.Bool.{cases_eq}
 use Rattle.bow_units.specs.declared.sizes.Geometry.{Geometry}
 use Rattle.bow_units.specs.declared.statuses.Kind.{Kind}
 use Rattle.bow_units.specs.declared.statuses.Kind.TheVariants.{Sector0, Current, Unchanged, Free, Changed, Backup, Saved}
 use Rattle.bow_units.specs.declared.requests.Phase.TheVariants.{Checkpoint}
 use Rattle.bow_flat.specs.Flat.{Flat, May}
-use Rattle.bow_log.specs.Generations.{Generation, GenerationFits}
+use Rattle.bow_log.specs.Generations.{Generation}
 use Rattle.bow_chain.specs.Contents.{Contents}
 use Rattle.bow_chain.specs.Sound.{log_in}
 use Rattle.bow_copy.specs.declared.jobs.Job.{Job}
@@ -15,14 +15,16 @@ use Rattle.bow_guard.specs.Device.{Device, unsaved}
 use Rattle.bow_guard.specs.Guard.{Guarded}
 use Rattle.bow_guard.proofs.Device.{cleaned, not_saved}
 use Rattle.bow_queue.specs.declared.tickets.Ticket.{Ticket}
-use Rattle.bow_ranges.specs.Kinds.{kind_at, is_free}
+use Rattle.bow_ranges.specs.Kinds.{kind_at}
 use Rattle.bow_machine.specs.Memory.{Memory, Hand, Empty, may_be_written, place_with}
 use Rattle.bow_machine.specs.Calls.{Reply, Failed, Succeeded, Gave, WriteCall, FlushCall, WriteTried, Does}
 use Rattle.bow_machine.specs.Tasks.{spelling}
 use Rattle.bow_machine.specs.Steps.{batch_step, log_for, kinds_for}
-use Rattle.bow_machine.specs.MemoryIsSound.{IsTable, is_touched, ForWrite}
-use Rattle.bow_machine.proofs.Held.{device_of, IsHidden, Room, IsKept}
-use Rattle.bow_machine.proofs.Tables.{kind_unsaved, count_unsaved, table_unsaved}
+use Rattle.bow_machine.specs.MemoryIsSound.{IsTable, ForWrite}
+use Rattle.bow_machine.proofs.Held.{device_of, IsHidden, IsKept}
+use Rattle.bow_machine.proofs.Tables.{kind_unsaved, table_unsaved}
+use Rattle.bow_machine.specs.MemoryIsSound.{LogIsSound}
+use Rattle.bow_machine.proofs.SoundLogs.{clean_log}
 use Rattle.bow_machine.proofs.BatchActs.{lead}
 use Rattle.bow_machine.proofs.BatchStands.{working, Working, never_arming, place_cases, to_standing, rehanded, all_flushed}
 use Rattle.bow_machine.proofs.BatchAnswers.{keeps_same, for_write_kept, batch_failed}
@@ -41,19 +43,14 @@ module _ (g : Geometry) (m : Memory) (log new : Generation) (kinds : List Kind) 
   pub log_changed : (block : List ℕ) (older : List Generation) (w : Working g m hand log now may f)
       → WriteTried 0 block now new_now may new_may
       → Guarded g f.used f.saved (device_of with_log new older (w.kept).clean_log (w.kept).clean_older new_now new_may)
-      → IsTable g kinds → new.restoring ≡ false → GenerationFits new → kind_at kinds new.current ≡ Current
-      → new.current < g.blocks
-      → ((b : ℕ) → b < g.blocks → kind_at kinds b ≡ Current → b ≡ new.current)
+      → IsTable g kinds → LogIsSound g kinds false m.trimmed 0 new
       → ((b : ℕ) → IsHidden (kind_at kinds b) → IsHidden (kind_at m.kinds b))
-      → now new.current ≡ now log.current → Room with_log new
+      → now new.current ≡ now log.current
       → Working g (record m { kinds = kinds; clean = false }) Empty new new_now new_may f
-  log_changed block older w tried guard table own fits current inside only hidden same room = record {
-    sizes = w.sizes;
+  log_changed block older w tried guard table sound hidden same = record {
+    memory = record { sizes = w.memory.sizes; table = table; requests = w.memory.requests; tickets = w.memory.tickets };
     state = w.state;
     phases = w.phases;
-    table = table;
-    requests = w.requests;
-    tickets = w.tickets;
     held = λ x on. elim (cases_eq x 0) [
       | inl is ↦ subst (λ y. Contains (new_may y) (new_now y)) (sym is) tried.held
       | inr ne ↦ subst (λ vs. Contains vs (new_now x)) (sym (tried.given.others_may x ne)) (subst (Contains (may x)) (sym (tried.given.others_now x ne)) (w.held x on))
@@ -68,21 +65,14 @@ module _ (g : Geometry) (m : Memory) (log new : Generation) (kinds : List Kind) 
       leaves = guard;
       clean = λ c. absurd (grind arith);
       arming = never_arming;
-      own = own;
-      fits = fits;
-      current = current;
-      current_inside = inside;
-      only_current = only;
-      none_saved = λ c. absurd (grind arith);
+      sound = sound;
       hidden = λ b on is. (w.kept).hidden b on (hidden b is);
-      room = room;
       trimmed = (w.kept).trimmed;
-      bounded = (w.kept).bounded;
     };
   }
     where
       above : new.current ≢ 0
-      above is = let clash : Current ≡ Sector0 = sym current ∙ ap (kind_at kinds) is ∙ table.zeroth in absurd (grind arith)
+      above is = absurd (omega (arith, is, sound.generation.current_not_0))
 
 module _ (g : Geometry) (m : Memory) (job : Job) (slots : List (List ℕ)) (t : Ticket) (log : Generation) (f : Flat)
     (now new_now : Contents) (may new_may : Candidates) where
@@ -108,15 +98,6 @@ module _ (g : Geometry) (m : Memory) (job : Job) (slots : List (List ℕ)) (t : 
 -- ----------------------------------------------------------------------------------------------------------------
 -- The last flush.
 
-pub not_unsaved : (k : Kind) → unsaved k ≢ Saved
-not_unsaved Sector0 is = absurd (grind arith)
-not_unsaved Current is = absurd (grind arith)
-not_unsaved Unchanged is = absurd (grind arith)
-not_unsaved Free is = absurd (grind arith)
-not_unsaved Changed is = absurd (grind arith)
-not_unsaved Backup is = absurd (grind arith)
-not_unsaved Saved is = absurd (grind arith)
-
 -- what was changed or saved holds what was written
 was_hidden : (k : Kind) → IsHidden (unsaved k) → IsHidden k
 was_hidden Sector0 h = h
@@ -127,27 +108,15 @@ was_hidden Changed h = h
 was_hidden Backup h = h
 was_hidden Saved h = absurd (grind arith)
 
-pub was_current : (k : Kind) → unsaved k ≡ Current → k ≡ Current
-was_current Sector0 h = h
-was_current Current h = h
-was_current Unchanged h = h
-was_current Free h = h
-was_current Changed h = h
-was_current Backup h = h
-was_current Saved h = absurd (grind arith)
-
 module _ (g : Geometry) (m : Memory) (log : Generation) (f : Flat) (now : Contents) where
   -- with nothing in hand and the log in block 0, a flush makes it durable
   pub log_durable : (may new_may : Candidates) → IsFlushed g now new_may → log_in g (now 0) ≡ Some log
       → Working g m Empty log now may f
       → Working g (record m { kinds = map unsaved m.kinds; clean = true }) Empty log now new_may f
   log_durable may new_may done spelled w = record {
-    sizes = w.sizes;
+    memory = record { sizes = w.memory.sizes; table = table_unsaved g m.kinds w.memory.table; requests = w.memory.requests; tickets = w.memory.tickets };
     state = w.state;
     phases = w.phases;
-    table = table_unsaved g m.kinds w.table;
-    requests = w.requests;
-    tickets = w.tickets;
     held = (all_flushed g m log f Empty now may new_may done w).held;
     shown = w.shown;
     kept = record {
@@ -159,16 +128,9 @@ module _ (g : Geometry) (m : Memory) (log : Generation) (f : Flat) (now : Conten
           (λ x ne. kind_unsaved m.kinds x ∙ not_saved (kind_at m.kinds x) ne) (λ x. refl) k.leaves;
       clean = λ c. record { log = refl; older = refl };
       arming = never_arming;
-      own = k.own;
-      fits = k.fits;
-      current = kind_unsaved m.kinds log.current ∙ ap unsaved k.current;
-      current_inside = k.current_inside;
-      only_current = λ b on is. k.only_current b on (was_current (kind_at m.kinds b) (sym (kind_unsaved m.kinds b) ∙ is));
-      none_saved = λ c b on is. not_unsaved (kind_at m.kinds b) (sym (kind_unsaved m.kinds b) ∙ is);
+      sound = clean_log g m.kinds m.clean m.trimmed log k.sound;
       hidden = λ b on is. k.hidden b on (was_hidden (kind_at m.kinds b) (subst IsHidden (kind_unsaved m.kinds b) is));
-      room = let free = count_unsaved m.kinds is_free refl in let touched = count_unsaved m.kinds is_touched refl in omega (arith, k.room, free, touched);
       trimmed = k.trimmed;
-      bounded = k.bounded;
     };
   }
     where

@@ -19,6 +19,7 @@ use Rattle.bow_machine.proofs.Held.{device_of, IsKept}
 use Rattle.bow_machine.proofs.Spelled.{spelled}
 use Rattle.bow_machine.proofs.BatchActs.{running}
 use Rattle.bow_machine.proofs.BatchStands.{working, Working, rehanded}
+use Rattle.bow_machine.proofs.SoundLogs.{rewrite_change}
 use Rattle.bow_machine.proofs.Hands.{Keeps}
 use Rattle.bow_machine.proofs.BatchSteps.{batch_at, batching, at_work}
 use Rattle.bow_machine.proofs.BatchLogs.{log_changed, log_keeps}
@@ -36,12 +37,12 @@ module _ (g : Geometry) (m : Memory) (slots : List (List ℕ)) (t : Ticket) (log
       let e = empty.kept in
       let before = device_of (working m Empty log) log e.older e.clean_log e.clean_older now may in
       log_changed g m log log m.kinds Empty now new_now may new_may f (spelling g log) e.older empty tried
-      (rewritten g f.used f.saved before new_now new_may (spelling g log) (spelled g log w.sizes k.leaves.log.behind.valid k.fits) tried.given e.leaves)
-      w.table k.own k.fits k.current k.current_inside k.only_current (λ b h. h) refl k.room
+      (rewritten g f.used f.saved before new_now new_may (spelling g log) (spelled g log w.memory.sizes k.sound.generation k.sound.fits) tried.given e.leaves)
+      w.memory.table (rewrite_change g m.kinds m.clean m.trimmed log slots w.memory.sizes w.memory.table k.sound).sound (λ b h. h) refl
 
   pub rewrite_keeps : (reply : Reply) → ForWrite g (at_work m Rewrite 0 slots t log) t
       → Does g (call_of_act g (at_work m Rewrite 0 slots t log) (batch_at Rewrite 0 slots t) (next_act (running Rewrite 0))) reply now may new_now new_may
       → Keeps g new_now new_may f (batch_step g (at_work m Rewrite 0 slots t log) (batch_at Rewrite 0 slots t) reply)
   rewrite_keeps reply write does =
       log_keeps g m Rewrite slots t log f now new_now may new_may reply write (λ b h. h)
-      (spelled g log w.sizes k.leaves.log.behind.valid k.fits) log_again does
+      (spelled g log w.memory.sizes k.sound.generation k.sound.fits) log_again does

@@ -1,11 +1,9 @@
 -- The machine in Checkpoint with the worker's batch in hand: what the calls that a batch makes on the disk, and the blocks
 -- that it picks and gives up, do to what stands.
-use Rattle.std.proofs.Common.{ℕ, zero, suc, ◌+◌, ◌-◌, ◌*◌, ◌<◌, ◌≤◌, ◌≡◌, ◌≢◌, ◌⊎◌, true, false, cond, List, [], ◌∷◌, length, Some, None, arith, refl, sym, ap, ◌∙◌, subst, inl, inr, Contains}
-use Rattle.std.specs.List.{AllByRecursion as Each}
-use Rattle.std.proofs.lemmas.Bool.{cases_eq, cases_lt}
+use Rattle.std.proofs.Common.{ℕ, ◌+◌, ◌-◌, ◌*◌, ◌<◌, ◌≤◌, ◌≡◌, ◌≢◌, ◌⊎◌, true, false, cond, List, [], ◌∷◌, length, Some, None, arith, refl, sym, ap, ◌∙◌, subst, inl, inr, Contains}
+use Rattle.std.proofs.lemmas.Bool.{cases_eq}
 use Rattle.bow_units.specs.declared.sizes.Geometry.{Geometry}
 use Rattle.bow_units.specs.declared.sizes.Extent.{Extent}
-use Rattle.bow_units.specs.Sizes.{IsValid}
 use Rattle.bow_units.specs.declared.requests.Phase.TheVariants.{Arming, Checkpoint}
 use Rattle.bow_units.specs.declared.statuses.Kind.{Kind}
 use Rattle.bow_units.specs.declared.statuses.Kind.TheVariants.{Sector0, Current, Unchanged, Free, Backup, Saved}
@@ -16,15 +14,16 @@ use Rattle.bow_chain.specs.Contents.{Contents}
 use Rattle.bow_guard.specs.Cuts.{Candidates, IsFlushed}
 use Rattle.bow_guard.specs.Device.{Device, Safe}
 use Rattle.bow_guard.proofs.Device.{loose_write, flushed, kinds_changed}
-use Rattle.bow_ranges.specs.Kinds.{kind_at, with_kind, holds, is_free, count_of}
+use Rattle.bow_ranges.specs.Kinds.{kind_at, with_kind, holds, is_free}
 use Rattle.bow_machine.specs.Memory.{Memory, Hand, Empty, reserved, place_with}
 use Rattle.bow_machine.specs.Calls.{WriteTried}
-use Rattle.bow_machine.specs.MemoryIsSound.{IsRequest, IsTable, is_touched}
-use Rattle.bow_machine.proofs.Held.{device_of, OwnTickets, IsHidden, IsKept, HandHeld, IsHeld}
+use Rattle.bow_machine.specs.MemoryIsSound.{IsTable, LogIsSound}
+use Rattle.bow_machine.proofs.Held.{device_of, HasMemory, IsHidden, IsKept, HandHeld, IsHeld}
 use Rattle.bow_machine.specs.Steps.{one_block}
 use Rattle.bow_machine.proofs.Hands.{kept_handed, kept_over}
 use Rattle.bow_machine.proofs.MappedWrites.{may_none}
-use Rattle.bow_machine.proofs.Tables.{holds_cases, kind_in, kind_out, count_with, count_part, table_with}
+use Rattle.bow_machine.proofs.SoundLogs.{IsSpare, spare_table, spare_log}
+use Rattle.bow_machine.proofs.Tables.{holds_cases, kind_in, kind_out}
 
 -- the memory in Checkpoint, with this in hand and this log
 abbrev pub working : Memory → Hand → Generation → Memory
@@ -33,12 +32,9 @@ working m hand log = record m { phase = Checkpoint; hand = hand; log = Some log 
 -- all that stands in Checkpoint but what is in hand
 pub record Working (g : Geometry) (m : Memory) (hand : Hand) (log : Generation) (now : Contents) (may : Candidates)
     (f : Flat) : Type 0 where
-  pub sizes : IsValid g
+  pub memory : HasMemory g m.kinds m.requests
   pub state : IsState f
   pub phases : f.phase ≡ Checkpoint
-  pub table : IsTable g m.kinds
-  pub requests : Each IsRequest m.requests
-  pub tickets : OwnTickets m.requests
   pub held : (b : ℕ) → b < g.blocks → Contains (may b) (now b)
   pub shown : (b : ℕ) → b < g.blocks → May (f.current b) (now (place_with (Some log) b))
   pub kept : IsKept g (working m hand log) now may f Checkpoint log
@@ -46,28 +42,9 @@ pub record Working (g : Geometry) (m : Memory) (hand : Hand) (log : Generation) 
 -- ----------------------------------------------------------------------------------------------------------------
 -- Kinds.
 
--- the kinds of blocks that are picked and given up
-abbrev pub IsSpare : Kind → Type 0
-IsSpare kind = (kind ≡ Free) ⊎ (kind ≡ Backup)
-
-pub spare_not_0 : (k : Kind) → IsSpare k → k ≢ Sector0
-spare_not_0 k h = grind arith
-
-spare_not_current : (k : Kind) → IsSpare k → k ≢ Current
-spare_not_current k h = grind arith
-
-spare_not_saved : (k : Kind) → IsSpare k → k ≢ Saved
-spare_not_saved k h = grind arith
-
 spare_hidden : (k : Kind) → IsSpare k → IsHidden k
 spare_hidden k (inl is) = inl is
 spare_hidden k (inr is) = inr (inl is)
-
-spare_untouched : (k : Kind) → IsSpare k → is_touched k ≡ false
-spare_untouched k h = grind arith
-
-spare_uncounted : (k : Kind) → IsSpare k → (n : ℕ) → n * cond (is_touched k) 1 0 ≡ 0
-spare_uncounted k h n = rw (spare_untouched k h) (omega arith)
 
 pub never_arming : {A : Type 0} → Checkpoint ≡ Arming → A
 never_arming h = absurd (grind arith)
@@ -81,11 +58,6 @@ holds_one b x is = grind arith
 
 pub holds_other : (b x : ℕ) → (b ≤ x → x < b + 1 → ⊥) → holds (one_block b) x ≡ false
 holds_other b x out = grind arith
-
--- block 0 has a kind of its own
-pub above_0 : (table : List Kind) (b : ℕ) → kind_at table 0 ≡ Sector0 → kind_at table b ≢ Sector0 → 0 < b
-above_0 table zero zeroth ne = absurd (ne zeroth)
-above_0 table (suc b) zeroth ne = omega arith
 
 unlike : (a b k : Kind) → k ≡ a → k ≡ b → (a ≢ b) → ⊥
 unlike a b k x y ne = ne (sym x ∙ y)
@@ -111,23 +83,20 @@ module _ (g : Geometry) where
   pub to_standing : (m : Memory) (hand : Hand) (log : Generation) (now : Contents) (may : Candidates) (f : Flat)
       → Working g m hand log now may f → HandHeld g (working m hand log) hand now may (Some log)
       → IsHeld g (working m hand log) now may f
-  to_standing m hand log now may f w h = record { sizes = w.sizes; state = w.state; phases = w.phases; table = w.table; requests = w.requests; tickets = w.tickets; held = w.held; shown = w.shown; kept = w.kept; in_hand = h }
+  to_standing m hand log now may f w h = record { memory = w.memory; state = w.state; phases = w.phases; held = w.held; shown = w.shown; kept = w.kept; in_hand = h }
 
   pub from_standing : (m : Memory) (hand : Hand) (log : Generation) (now : Contents) (may : Candidates) (f : Flat)
       → IsHeld g (working m hand log) now may f → Working g m hand log now may f
-  from_standing m hand log now may f s = record { sizes = s.sizes; state = s.state; phases = s.phases; table = s.table; requests = s.requests; tickets = s.tickets; held = s.held; shown = s.shown; kept = s.kept }
+  from_standing m hand log now may f s = record { memory = s.memory; state = s.state; phases = s.phases; held = s.held; shown = s.shown; kept = s.kept }
 
   module _ (m : Memory) (log : Generation) (f : Flat) where
     -- Another thing is in hand, which has reserved the same blocks.
     pub rehanded : (hand new : Hand) (now : Contents) (may : Candidates) → reserved new ≡ reserved hand
         → Working g m hand log now may f → Working g m new log now may f
     rehanded hand new now may same w = record {
-      sizes = w.sizes;
+      memory = w.memory;
       state = w.state;
       phases = w.phases;
-      table = w.table;
-      requests = w.requests;
-      tickets = w.tickets;
       held = w.held;
       shown = w.shown;
       kept = kept_handed g now may f (working m hand log) m.requests new same Checkpoint (Some log) w.kept;
@@ -139,12 +108,9 @@ module _ (g : Geometry) where
         → holds (reserved hand) b ≡ true
         → Working g m hand log now may f → Working g m hand log new_now new_may f
     block_written hand now new_now may new_may b v tried on kind picked w = record {
-      sizes = w.sizes;
+      memory = w.memory;
       state = w.state;
       phases = w.phases;
-      table = w.table;
-      requests = w.requests;
-      tickets = w.tickets;
       held = λ x inside. elim (cases_eq x b) [
         | inl is ↦ subst (λ y. Contains (new_may y) (new_now y)) (sym is) tried.held
         | inr ne ↦ subst (λ vs. Contains vs (new_now x)) (sym (tried.given.others_may x ne)) (subst (Contains (may x)) (sym (tried.given.others_now x ne)) (w.held x inside))
@@ -172,12 +138,12 @@ module _ (g : Geometry) where
 
         above : b ≢ 0
         above is =
-            unlike Backup Sector0 (kind_at m.kinds 0) (ap (kind_at m.kinds) (sym is) ∙ kind) w.table.zeroth
+            unlike Backup Sector0 (kind_at m.kinds 0) (ap (kind_at m.kinds) (sym is) ∙ kind) w.memory.table.zeroth
             (λ e. absurd (grind arith))
 
         not_current : log.current ≢ b
         not_current is =
-            unlike Backup Current (kind_at m.kinds b) kind (ap (kind_at m.kinds) (sym is) ∙ k.current)
+            unlike Backup Current (kind_at m.kinds b) kind (ap (kind_at m.kinds) (sym is) ∙ k.sound.current)
             (λ e. absurd (grind arith))
 
         loose : Safe g before b → ⊥
@@ -187,18 +153,15 @@ module _ (g : Geometry) where
     pub all_flushed : (hand : Hand) (now : Contents) (may new_may : Candidates) → IsFlushed g now new_may
         → Working g m hand log now may f → Working g m hand log now new_may f
     all_flushed hand now may new_may done w = record {
-      sizes = w.sizes;
+      memory = w.memory;
       state = w.state;
       phases = w.phases;
-      table = w.table;
-      requests = w.requests;
-      tickets = w.tickets;
       held = λ x inside. one_held (new_may x) (now x) (done x inside);
       shown = w.shown;
       kept =
           kept_over g (working m hand log) log now now may new_may f f Checkpoint Checkpoint Checkpoint (λ is. is)
           (λ x none. none) refl w.kept
-          (flushed g f.used f.saved before after (λ x. refl) done (w.held 0 (omega (arith, w.sizes.enough))) (record { log = refl; older = refl; clean_log = refl; clean_older = refl }) (λ x. refl) (λ x. refl) k.leaves);
+          (flushed g f.used f.saved before after (λ x. refl) done (w.held 0 (omega (arith, w.memory.sizes.enough))) (record { log = refl; older = refl; clean_log = refl; clean_older = refl }) (λ x. refl) (λ x. refl) k.leaves);
     }
       where
         k : IsKept g (working m hand log) now may f Checkpoint log
@@ -216,15 +179,12 @@ module _ (g : Geometry) where
         → IsSpare kind
         → ((k : IsKept g (working m hand log) now may f Checkpoint log) (x : ℕ) → Safe g (device_of (working m hand log) log k.older k.clean_log k.clean_older now may) x → holds e x ≡ true → ⊥)
         → ((x : ℕ) → holds e x ≡ false → holds (reserved new) x ≡ holds (reserved hand) x)
-        → (reserved new).count + e.count * cond (is_free kind) 1 0 ≡ (reserved hand).count + e.count * cond (is_free old) 1 0
+        → (reserved hand).count ≡ e.count * cond (is_free kind) 1 0 → (reserved new).count ≡ e.count * cond (is_free old) 1 0
         → Working g m hand log now may f → Working g (record m { kinds = with_kind m.kinds e kind }) new log now may f
-    rekinded hand new now may e old kind inside was spare_old spare apart picks counts w = record {
-      sizes = w.sizes;
+    rekinded hand new now may e old kind inside was spare_old spare apart picks before_it after_it w = record {
+      memory = record { sizes = w.memory.sizes; table = table; requests = w.memory.requests; tickets = w.memory.tickets };
       state = w.state;
       phases = w.phases;
-      table = table_with g m.kinds e kind (spare_not_0 kind spare) inside above w.table;
-      requests = w.requests;
-      tickets = w.tickets;
       held = w.held;
       shown = w.shown;
       kept = record {
@@ -234,19 +194,13 @@ module _ (g : Geometry) where
         leaves =
             kinds_changed g f.used f.saved before after (λ x. refl) (λ x. refl)
             (record { log = refl; older = refl; clean_log = refl; clean_older = refl }) (λ x s. safe x s)
-            (zeroth w.table.zeroth) k.leaves;
+            table.zeroth k.leaves;
         clean = λ c. let i = k.clean c in record { log = i.log; older = i.older };
         arming = never_arming;
-        own = k.own;
-        fits = k.fits;
-        current = kept_kind log.current Current k.current (λ e. spare_not_current old spare_old (sym e));
-        current_inside = k.current_inside;
-        only_current = λ b on is. k.only_current b on (was_kind b Current is (λ e. spare_not_current kind spare (sym e)));
-        none_saved = λ c b on is. k.none_saved c b on (was_kind b Saved is (λ e. spare_not_saved kind spare (sym e)));
+        sound = subst (λ n. LogIsSound g kinds m.clean m.trimmed n log) (omega (arith, after_it))
+            (spare_log g m.kinds e old kind w.memory.table inside was spare_old spare m.clean m.trimmed 0 log (subst (λ n. LogIsSound g m.kinds m.clean m.trimmed n log) (before_it ∙ omega arith) k.sound));
         hidden = hidden;
-        room = room;
         trimmed = k.trimmed;
-        bounded = k.bounded;
       };
     }
       where
@@ -264,7 +218,7 @@ module _ (g : Geometry) where
             device_of (working (record m { kinds = with_kind m.kinds e kind }) new log) log k.older k.clean_log k.clean_older now may
 
         fits : e.first + e.count ≤ length m.kinds
-        fits = omega (arith, inside, w.table.size)
+        fits = omega (arith, inside, w.memory.table.size)
 
         in_extent : (x : ℕ) → e.first ≤ x → x < e.first + e.count → kind_at m.kinds x ≡ old
         in_extent x low high = let there : e.first + (x - e.first) ≡ x = omega arith in ap (kind_at m.kinds) (sym there) ∙ was (x - e.first) (omega arith)
@@ -277,23 +231,8 @@ module _ (g : Geometry) where
           | inr (out, is) ↦ inr (kind_out m.kinds e kind x fits out, is)
         ]
 
-        kept_kind : (x : ℕ) (other : Kind) → kind_at m.kinds x ≡ other → other ≢ old → kind_at kinds x ≡ other
-        kept_kind x other is ne = elim (new_kind x) [ inl h ↦ absurd (ne (sym is ∙ h.0)) | inr h ↦ h.0 ∙ is ]
-
-        was_kind : (x : ℕ) (other : Kind) → kind_at kinds x ≡ other → other ≢ kind → kind_at m.kinds x ≡ other
-        was_kind x other is ne = elim (new_kind x) [ inl h ↦ absurd (ne (sym is ∙ h.1)) | inr h ↦ sym h.0 ∙ is ]
-
-        zeroth : kind_at m.kinds 0 ≡ Sector0 → kind_at kinds 0 ≡ Sector0
-        zeroth z = kept_kind 0 Sector0 z (λ e. spare_not_0 old spare_old (sym e))
-
-        above : (0 < e.first) ⊎ (e.count ≡ 0)
-        above = elim (cases_lt 0 e.first) [
-          | inl some ↦ inl some
-          | inr none ↦ elim (cases_lt 0 e.count) [
-            | inl some ↦ let first : e.first + 0 ≡ 0 = omega arith in absurd (unlike old Sector0 (kind_at m.kinds 0) (ap (kind_at m.kinds) (sym first) ∙ was 0 some) w.table.zeroth (spare_not_0 old spare_old))
-            | inr empty ↦ inr (omega arith)
-          ]
-        ]
+        table : IsTable g kinds
+        table = spare_table g m.kinds e old kind w.memory.table inside was spare_old spare
 
         safe : (x : ℕ) → Safe g before x
             → (kind_at kinds x ≡ kind_at m.kinds x) × (holds (reserved new) x ≡ holds (reserved hand) x)
@@ -305,15 +244,6 @@ module _ (g : Geometry) where
           | inr h ↦ k.hidden b on (subst IsHidden h.0 is)
         ]
 
-        room : count_of is_free kinds + 2 + log.sequence + count_of is_touched kinds + (reserved new).count ≡ m.trimmed
-        room =
-            let free = count_with m.kinds e kind is_free fits in
-            let free_part = count_part m.kinds e.first e.count is_free (is_free old) fits (λ j below. ap is_free (was j below)) in
-            let touched = count_with m.kinds e kind is_touched fits in
-            let touched_part = count_part m.kinds e.first e.count is_touched false fits (λ j below. ap is_touched (was j below) ∙ spare_untouched old spare_old) in
-            let untouched = spare_uncounted kind spare e.count in
-            omega (arith, free, free_part, touched, touched_part, untouched, counts, k.room)
-
     -- The blocks that the batch had picked are given up.
     pub gave_up : (hand : Hand) (now : Contents) (may : Candidates) (e : Extent) → reserved hand ≡ e
         → e.first + e.count ≤ g.blocks → ((j : ℕ) → j < e.count → kind_at m.kinds (e.first + j) ≡ Backup)
@@ -321,7 +251,7 @@ module _ (g : Geometry) where
     gave_up hand now may e is inside was w = rekinded hand Empty now may e Backup Free inside was (inr refl) (inl refl)
         (λ k x s held. let no : true ≡ false = sym held ∙ ap (λ (r : Extent). holds r x) (sym is) ∙ s.firm.not_picked in absurd (grind arith))
         (λ x out. holds_none x ∙ sym out ∙ ap (λ (r : Extent). holds r x) (sym is))
-        (let count : (reserved hand).count ≡ e.count = ap (λ (r : Extent). r.count) is in omega (arith, count))
+        (let count : (reserved hand).count ≡ e.count = ap (λ (r : Extent). r.count) is in omega (arith, count)) (omega arith)
         w
 
     -- Free blocks are picked for a batch.
@@ -332,7 +262,7 @@ module _ (g : Geometry) where
     took new now may e is inside was w = rekinded Empty new now may e Free Backup inside was (inl refl) (inr refl)
         (λ k x s held. no_free (kind_at m.kinds x) (at_free x held) s.kind)
         (λ x out. ap (λ (r : Extent). holds r x) is ∙ out ∙ sym (holds_none x))
-        (let count : (reserved new).count ≡ e.count = ap (λ (r : Extent). r.count) is in omega (arith, count))
+        (omega arith) (let count : (reserved new).count ≡ e.count = ap (λ (r : Extent). r.count) is in omega (arith, count))
         w
       where
         no_free : (k : Kind) → k ≡ Free → ((k ≡ Unchanged) ⊎ (k ≡ Backup)) ⊎ (k ≡ Saved) → ⊥

@@ -19,14 +19,14 @@ use Rattle.bow_queue.specs.Requests.{is_command}
 use Rattle.bow_ranges.specs.Kinds.{kind_at, with_kind, is_free, count_of}
 use Rattle.bow_ranges.specs.Picks.{picked, IsPicked}
 use Rattle.bow_ranges.proofs.PickLaws.{picked_is}
-use Rattle.bow_machine.specs.Requests.{Request}
+use Rattle.bow_machine.specs.MemoryIsSound.{IsForCommand}
+use Rattle.bow_machine.specs.Requests.{Request, request_of}
 use Rattle.bow_machine.specs.Memory.{Memory, Hand, Empty, Batching, Preparing, Committing, ReadsBlock0, WritesFirstLog, FlushesAll, has_command, reserved}
 use Rattle.bow_machine.specs.Calls.{Reply, DoesIt}
 use Rattle.bow_machine.specs.Tasks.{Task, Waits, Answers, WritesBlock, ReadsBlock, FlushesFor, DiscardsFor, Acts, Command, prepare_on, without_picked, taken, first_of, take_first, command_task, task_of}
 use Rattle.bow_machine.specs.Steps.{one_block, act_step, call_in_hand, call_of, step_of}
 use Rattle.bow_machine.specs.MemoryIsSound.{IsTable}
-use Rattle.bow_machine.proofs.Held.{ForCommand, HandHeld, IsHeld}
-use Rattle.bow_machine.proofs.RequestLists.{find_passes}
+use Rattle.bow_machine.proofs.Held.{HandHeld, IsHeld}
 use Rattle.bow_machine.proofs.Tables.{length_with, kind_one, kind_other, count_one}
 use Rattle.bow_machine.proofs.Tickets.{found_own}
 use Rattle.bow_machine.proofs.Hands.{rehanded, same_disk, Keeps}
@@ -76,38 +76,41 @@ module _ (g : Geometry) (m : Memory) (now : Contents) (may : Candidates) (f : Fl
   taken_on : (hand : Hand) → reserved hand ≡ reserved Empty → has_command hand ≡ true → HandHeld g (record m { hand = hand }) hand now may m.log → ActsOn g now may f (record m { hand = hand })
   taken_on hand none command held = record { stands = rehanded g now may f m hand (none ∙ sym (ap reserved empty)) held k; commands = command }
 
-  module _ (r : Request) (waits : ForCommand m.requests r.ticket) where
-    prepares : m.phase ≡ Trim → (c b : Option Extent) → picked m.kinds 1 ≡ c → picked (without_picked m.kinds c) 1 ≡ b → IsCommandTask g now may f (prepare_on m r c b)
-    prepares is None b one other = tt
-    prepares is (Some c) None one other = tt
-    prepares is (Some c) (Some b) one other =
-        let first = picked_free g m c k.table one in
-        let second = picked_more g m c b k.table first.1 first.2 other in
-        taken_on (Preparing r.ticket c.first b.first ReadsBlock0) refl refl (record { phase = is; apart = second.2; c_inside = first.1; b_inside = second.1; c_free = first.0; b_free = second.0 }, waits)
+  module _ (r : Request) (waits : request_of r.ticket m.requests ≡ Some r) where
+    for_it : (op : Op) → r.op ≡ op → IsForCommand m.requests r.ticket op
+    for_it op asks = record { command = r; waits = waits; asks = asks }
 
-    takes : (op : Op) (phase : Phase) → m.phase ≡ phase → IsCommandTask g now may f (taken m r op phase)
-    takes Prepare Trim is = go (nat_lt (count_of is_free m.kinds) 2)
+    prepares : r.op ≡ Prepare → m.phase ≡ Trim → (c b : Option Extent) → picked m.kinds 1 ≡ c → picked (without_picked m.kinds c) 1 ≡ b → IsCommandTask g now may f (prepare_on m r c b)
+    prepares asks is None b one other = tt
+    prepares asks is (Some c) None one other = tt
+    prepares asks is (Some c) (Some b) one other =
+        let first = picked_free g m c k.memory.table one in
+        let second = picked_more g m c b k.memory.table first.1 first.2 other in
+        taken_on (Preparing r.ticket c.first b.first ReadsBlock0) refl refl (record { phase = is; apart = second.2; c_inside = first.1; b_inside = second.1; c_free = first.0; b_free = second.0 }, for_it Prepare asks)
+
+    takes : (op : Op) (phase : Phase) → r.op ≡ op → m.phase ≡ phase → IsCommandTask g now may f (taken m r op phase)
+    takes Prepare Trim asks is = go (nat_lt (count_of is_free m.kinds) 2)
       where
         go : (few : Bool) → IsCommandTask g now may f (cond few (Answers r (outcomes.NoSpace 0)) (prepare_on m r (picked m.kinds 1) (picked (without_picked m.kinds (picked m.kinds 1)) 1)))
         go true = tt
-        go false = prepares is (picked m.kinds 1) (picked (without_picked m.kinds (picked m.kinds 1)) 1) refl refl
-    takes Prepare Arming is = taken_on (Preparing r.ticket 0 0 WritesFirstLog) refl refl (is, waits)
-    takes Prepare Checkpoint is = tt
-    takes Prepare Deciding is = tt
-    takes Prepare Committed is = tt
-    takes Commit Trim is = tt
-    takes Commit Arming is = tt
-    takes Commit Checkpoint is = taken_on (Committing r.ticket false FlushesAll) refl refl (is, waits)
-    takes Commit Deciding is = taken_on (Committing r.ticket true FlushesAll) refl refl (is, waits)
-    takes Commit Committed is = tt
-    takes (Read e p) phase is = tt
-    takes (Write e p) phase is = tt
-    takes (Discard e) phase is = tt
-    takes Flush phase is = tt
+        go false = prepares asks is (picked m.kinds 1) (picked (without_picked m.kinds (picked m.kinds 1)) 1) refl refl
+    takes Prepare Arming asks is = taken_on (Preparing r.ticket 0 0 WritesFirstLog) refl refl (is, for_it Prepare asks)
+    takes Prepare Checkpoint asks is = tt
+    takes Prepare Deciding asks is = tt
+    takes Prepare Committed asks is = tt
+    takes Commit Trim asks is = tt
+    takes Commit Arming asks is = tt
+    takes Commit Checkpoint asks is = taken_on (Committing r.ticket false FlushesAll) refl refl (is, for_it Commit asks)
+    takes Commit Deciding asks is = taken_on (Committing r.ticket true FlushesAll) refl refl (is, for_it Commit asks)
+    takes Commit Committed asks is = tt
+    takes (Read e p) phase asks is = tt
+    takes (Write e p) phase asks is = tt
+    takes (Discard e) phase asks is = tt
+    takes Flush phase asks is = tt
 
   takes_first : (found : Option Request) → first_of m.requests ≡ found → IsCommandTask g now may f (take_first m found)
   takes_first None is = tt
-  takes_first (Some r) is = takes r (record { command = r; waits = found_own (λ q. is_command q.op) m.requests r k.tickets is; is_one = find_passes (λ q. is_command q.op) m.requests r is }) r.op m.phase refl
+  takes_first (Some r) is = takes r (found_own (λ q. is_command q.op) m.requests r k.memory.tickets is) r.op m.phase refl refl
 
 -- what the turn does
 pub command_acts : (g : Geometry) (m : Memory) (now : Contents) (may : Candidates) (f : Flat) → IsHeld g m now may f → IsCommandTask g now may f (task_of g m Command)

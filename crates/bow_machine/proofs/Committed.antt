@@ -23,7 +23,7 @@ use Rattle.bow_machine.specs.MemoryIsSound.{FoundIn}
 use Rattle.bow_machine.proofs.Held.{device_of, IsKept, Kept, IsHeld}
 use Rattle.bow_machine.proofs.Tables.{table_with, kind_in}
 use Rattle.bow_machine.proofs.Hands.{emptied, kept_over}
-use Rattle.bow_machine.proofs.Prepared.{place_above, place_not_0, held_0, shown_0}
+use Rattle.bow_machine.proofs.Prepared.{place_above, place_not_0, written_0}
 
 module _ (g : Geometry) where
   -- what is kept in Checkpoint
@@ -44,17 +44,14 @@ module _ (g : Geometry) where
     in_deciding is = deciding_facts (emptied m) now may f m.log (subst (λ p. Kept g (emptied m) now may f p m.log) is k.kept)
 
     first_block : 0 < g.blocks
-    first_block = omega (arith, k.sizes.enough)
+    first_block = omega (arith, k.memory.sizes.enough)
 
     -- a flush that is done, with no event
     flushed_kept : (new_may : Candidates) → IsFlushed g now new_may → Kept g (emptied m) now new_may f m.phase m.log → IsHeld g (emptied m) now new_may f
     flushed_kept new_may is kept = record {
-      sizes = k.sizes;
+      memory = k.memory;
       state = k.state;
       phases = k.phases;
-      table = k.table;
-      requests = k.requests;
-      tickets = k.tickets;
       held = λ x inside. subst (λ vs. Contains vs (now x)) (sym (is x inside)) (0, omega arith, refl);
       shown = k.shown;
       kept = kept;
@@ -96,19 +93,9 @@ module _ (g : Geometry) where
 
     -- the deciding write, done or failed
     pub decided : m.phase ≡ Checkpoint → IsFlushed g now may → IsHeld g (record m { phase = Deciding; hand = Empty }) new_now new_may (after g.blocks Decides f)
-    decided is all = record {
-      sizes = k.sizes;
-      state = stays_valid g.blocks Decides f k.state (k.phases ∙ is) tt;
-      phases = refl;
-      table = k.table;
-      requests = k.requests;
-      tickets = k.tickets;
-      held = held_0 g m now new_now may new_may f k content tried;
-      shown = shown_0 g m now new_now may new_may f k content log valid a.1 tried;
-      kept = subst (λ l. Kept g (record m { phase = Deciding; hand = Empty }) new_now new_may (after g.blocks Decides f) Deciding l) (sym a.1)
-          (kept_over g (emptied m) log now new_now may new_may f (after g.blocks Decides f) Checkpoint Deciding Deciding (λ x. absurd (grind arith)) (λ b none. (none.0, none.0)) refl a.2 leaves);
-      in_hand = tt;
-    }
+    decided is all =
+        written_0 g m now new_now may new_may f k content Deciding (after g.blocks Decides f) log tried valid a.1 (stays_valid g.blocks Decides f k.state (k.phases ∙ is) tt) refl refl
+        (kept_over g (emptied m) log now new_now may new_may f (after g.blocks Decides f) Checkpoint Deciding Deciding (λ x. absurd (grind arith)) (λ b none. (none.0, none.0)) refl a.2 leaves)
       where
         a : (l : Generation) × (m.log ≡ Some l) × IsKept g (emptied m) now may f Checkpoint l
         a = in_checkpoint m now may f k is
@@ -129,19 +116,9 @@ module _ (g : Geometry) where
 
     -- it is made once more
     pub decided_again : m.phase ≡ Deciding → IsHeld g (record m { phase = Deciding; hand = Empty }) new_now new_may f
-    decided_again is = record {
-      sizes = k.sizes;
-      state = k.state;
-      phases = k.phases ∙ is;
-      table = k.table;
-      requests = k.requests;
-      tickets = k.tickets;
-      held = held_0 g m now new_now may new_may f k content tried;
-      shown = shown_0 g m now new_now may new_may f k content log valid a.1 tried;
-      kept = subst (λ l. Kept g (record m { phase = Deciding; hand = Empty }) new_now new_may f Deciding l) (sym a.1)
-          (kept_over g (emptied m) log now new_now may new_may f f Deciding Deciding Deciding (λ x. x) (λ b none. none) refl a.2 leaves);
-      in_hand = tt;
-    }
+    decided_again is =
+        written_0 g m now new_now may new_may f k content Deciding f log tried valid a.1 k.state (k.phases ∙ is) refl
+        (kept_over g (emptied m) log now new_now may new_may f f Deciding Deciding Deciding (λ x. x) (λ b none. none) refl a.2 leaves)
       where
         a : (l : Generation) × (m.log ≡ Some l) × IsKept g (emptied m) now may f Deciding l
         a = in_deciding m now may f k is
@@ -170,15 +147,12 @@ module _ (g : Geometry) where
     -- the checkpoint is given up
     let_go : (h : Flat) → h.phase ≡ Committed → IsState h → h.current ≡ f.current → IsPending g h new_may → IsHeld g (released m) now new_may h
     let_go h phase state current pending = record {
-      sizes = k.sizes;
+      memory = record { sizes = k.memory.sizes; table = table_with g m.kinds above kinds.Unchanged (λ e. absurd (grind arith)) (omega (arith, k.memory.table.size, k.memory.sizes.enough)) (inl (omega arith)) k.memory.table; requests = k.memory.requests; tickets = k.memory.tickets };
       state = state;
       phases = phase;
-      table = table_with g m.kinds above kinds.Unchanged (λ e. absurd (grind arith)) (omega (arith, k.table.size, k.sizes.enough)) (inl (omega arith)) k.table;
-      requests = k.requests;
-      tickets = k.tickets;
       held = λ x inside. subst (λ vs. Contains vs (now x)) (sym (all x inside)) (0, omega arith, refl);
       shown = λ x inside. subst (λ (c : ℕ → Option (List (List ℕ))). May (c x) (now x)) (sym current) (show x inside);
-      kept = (pending, λ x some inside. kind_in m.kinds above kinds.Unchanged x (omega (arith, k.table.size, k.sizes.enough)) (omega arith) (omega (arith, k.table.size)));
+      kept = (pending, λ x some inside. kind_in m.kinds above kinds.Unchanged x (omega (arith, k.memory.table.size, k.memory.sizes.enough)) (omega arith) (omega (arith, k.memory.table.size)));
       in_hand = tt;
     }
       where

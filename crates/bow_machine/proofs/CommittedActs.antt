@@ -1,5 +1,6 @@
 -- Each act of a commit, done or failed, keeps what the machine stands for.
 use Rattle.std.proofs.Common.{◌≡◌, Bool, true, false, [], ◌∷◌, refl, sym, ap, ◌∙◌, subst}
+use Rattle.bow_units.specs.declared.requests.Op.TheVariants.{Commit}
 use Rattle.bow_units.specs.declared.sizes.Geometry.{Geometry}
 use Rattle.bow_units.specs.declared.requests.Outcome.TheVariants as outcomes
 use Rattle.bow_units.specs.declared.requests.Phase.TheVariants.{Deciding}
@@ -8,12 +9,13 @@ use Rattle.bow_flat.specs.Flat.{Flat, after}
 use Rattle.bow_flat.specs.Flat.Event.{Flushes, Decides, Commits}
 use Rattle.bow_guard.specs.Cuts.{Candidates, IsFlushed}
 use Rattle.bow_queue.specs.declared.tickets.Ticket.{Ticket}
+use Rattle.bow_machine.specs.MemoryIsSound.{IsForCommand}
 use Rattle.bow_machine.specs.Requests.{request_of}
 use Rattle.bow_machine.specs.Memory.{Memory, Hand, Empty, Committing, CommitAct, FlushesAll, ReadsCurrent, WritesBlock0, FlushesDecision, reserved}
 use Rattle.bow_machine.specs.Calls.{Reply, Failed, Succeeded, Gave, Does}
 use Rattle.bow_machine.specs.Steps.{answered_for, call_of_commit, commit_step, deciding_events, released}
 use Rattle.bow_machine.specs.MemoryIsSound.{FoundIn}
-use Rattle.bow_machine.proofs.Held.{CommitHeld, ForCommand, HandHeld, IsHeld}
+use Rattle.bow_machine.proofs.Held.{CommitHeld, HandHeld, IsHeld}
 use Rattle.bow_machine.proofs.Hands.{emptied, rehanded, same_disk, Keeps, goes_on, ends}
 use Rattle.bow_machine.proofs.Committed.{checkpoint_flushed, deciding_all_flushed, decided, decided_again, same_place, released_stands, released_again}
 
@@ -30,7 +32,7 @@ at_end : (again : Bool) → deciding_events again FlushesDecision ≡ []
 at_end false = refl
 at_end true = refl
 
-module _ (g : Geometry) (m : Memory) (now new_now : Contents) (may new_may : Candidates) (f : Flat) (t : Ticket) (waits : ForCommand m.requests t) (e : IsHeld g (emptied m) now may f) where
+module _ (g : Geometry) (m : Memory) (now new_now : Contents) (may new_may : Candidates) (f : Flat) (t : Ticket) (waits : IsForCommand m.requests t Commit) (e : IsHeld g (emptied m) now may f) where
   -- an act that failed and decided nothing
   failed : (again : Bool) (act : CommitAct) → deciding_events again act ≡ [] → IsHeld g (emptied m) new_now new_may f
       → Keeps g new_now new_may f (answered_for (emptied m) (request_of t m.requests) (λ r. outcomes.DiskFault 0) (λ r. deciding_events again act))

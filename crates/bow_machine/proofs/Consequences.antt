@@ -1,14 +1,14 @@
 -- What follows from what the machine stands for.
-use Rattle.std.proofs.Common.{ℕ, ◌<◌, ◌≡◌, Bool, true, false, List, ◌∷◌, Option, Some, None, arith, refl, sym, ap, ◌∙◌, subst, inl, inr}
+use Rattle.std.proofs.Common.{ℕ, ◌≡◌, Bool, true, false, List, Option, Some, None, arith, refl, sym, ap, ◌∙◌, subst, inl, inr}
 use Rattle.bow_units.specs.declared.sizes.Geometry.{Geometry}
 use Rattle.bow_units.specs.declared.requests.Phase.{Phase}
 use Rattle.bow_units.specs.declared.requests.Phase.TheVariants.{Trim, Arming, Checkpoint, Deciding, Committed}
 use Rattle.bow_log.specs.Generations.{Generation}
 use Rattle.bow_chain.specs.Contents.{Contents, with_block}
-use Rattle.bow_chain.specs.Places.{pass, base}
+use Rattle.bow_chain.specs.Places.{pass}
 use Rattle.bow_chain.specs.Sound.{log_in, StandsBehind}
 use Rattle.bow_chain.specs.Counting.{AtPlaces}
-use Rattle.bow_chain.proofs.Counting.{at_places_map, entries_map, places_map, some_inj, same_chain}
+use Rattle.bow_chain.proofs.Counting.{at_places_map, some_inj, same_chain}
 use Rattle.bow_flat.specs.Flat.{Flat}
 use Rattle.bow_guard.specs.Cuts.{Candidates}
 use Rattle.bow_guard.specs.Device.{Device, Firm, Steady, Safe}
@@ -22,7 +22,6 @@ use Rattle.bow_machine.specs.Ready.{is_idle}
 use Rattle.bow_machine.proofs.Held.{device_of, IsKept, Kept, IsHeld}
 use Rattle.bow_machine.specs.Consequences.{TrimmedIsKept, NoneIsPicked, LiveKeeps}
 use Rattle.bow_machine.proofs.Spelled.{spelled}
-use Rattle.bow_machine.proofs.Cuts.{machine_cut}
 use Rattle.bow_machine.proofs.Joined.{held}
 
 -- with a log in memory, what is kept behind it
@@ -101,7 +100,7 @@ live_keeps g m now may f log s is some =
     record {
       log = log;
       older = k.older;
-      sound = record { spelled = ap (log_in g) (block_there now 0 (spelling g log)) ∙ spelled g log s.sound.sizes guarded.log.behind.valid k.fits; behind = kept.behind };
+      sound = record { spelled = ap (log_in g) (block_there now 0 (spelling g log)) ∙ spelled g log s.sound.sizes guarded.log.behind.valid k.sound.fits; behind = kept.behind };
       kept = kept.kept;
     }
 

@@ -1,5 +1,5 @@
 -- How many blocks are free in Trim, and what a prepare takes of them.
-use Rattle.std.proofs.Common.{ℕ, zero, suc, ◌+◌, ◌<◌, ◌≤◌, ◌≡◌, ◌≢◌, Bool, false, cond, List, [], ◌∷◌, length, arith, refl, sym, ap, ◌∙◌, inl, inr}
+use Rattle.std.proofs.Common.{ℕ, zero, suc, ◌+◌, ◌<◌, ◌≤◌, ◌≡◌, ◌≢◌, Bool, true, false, cond, List, [], ◌∷◌, length, arith, refl, sym, ap, ◌∙◌, inl, inr}
 use Rattle.std.proofs.lemmas.List.Sums.{count_by-le-length}
 use Rattle.bow_units.specs.declared.sizes.Geometry.{Geometry}
 use Rattle.bow_units.specs.declared.statuses.Kind.{Kind}
@@ -10,6 +10,7 @@ use Rattle.bow_ranges.proofs.RunReads.{count-append}
 use Rattle.bow_machine.specs.Steps.{one_block}
 use Rattle.bow_machine.specs.MemoryIsSound.{IsTable, is_touched}
 use Rattle.bow_machine.proofs.Held.{IsTrimmed}
+use Rattle.bow_machine.proofs.SoundLists.{count_cons}
 use Rattle.bow_machine.proofs.Tables.{length_with, kind_one, kind_other, count_one}
 
 count_same : (trim : ℕ → Bool) (table : List Kind) (first : ℕ) → ((i : ℕ) → i < length table → trim (first + i) ≡ is_free (kind_at table i)) → count_from trim first (length table) ≡ count_of is_free table
@@ -29,6 +30,16 @@ count_none sort (kind ∷ table) none =
     let single : Bool → ℕ = λ t. 0 + cond t 1 0 in
     let head : 0 + cond (sort kind) 1 0 ≡ 0 = ap single (none 0 (omega arith)) in
     omega (arith, rest, head, count-append sort (kind ∷ []) table)
+
+-- where none is counted, none is there
+pub none_counted : (sort : Kind → Bool) (table : List Kind) (b : ℕ) → count_of sort table ≡ 0 → b < length table → sort (kind_at table b) ≡ false
+none_counted sort [] b none below = absurd (omega arith)
+none_counted sort (k ∷ ks) zero none below = here (sort k) (sym (count_cons sort k ks) ∙ none)
+  where
+    here : (t : Bool) → cond t 1 0 + count_of sort ks ≡ 0 → t ≡ false
+    here true some = absurd (omega arith)
+    here false some = refl
+none_counted sort (k ∷ ks) (suc b) none below = none_counted sort ks b (let all = count_cons sort k ks in omega (arith, all, none)) (omega arith)
 
 pub count_most : (sort : Kind → Bool) (table : List Kind) → count_of sort table ≤ length table
 count_most sort table = count_by-le-length sort table

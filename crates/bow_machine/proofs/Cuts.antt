@@ -40,4 +40,4 @@ pub machine_cut : CutStands
 machine_cut g m now may f image s cut =
     let h = held g m now may f s in
     let left = left_by g m now may f m.phase m.log h.kept in
-    cut_stands g f left.device image left.content (omega (arith, (h.sizes).enough)) s.state (subst (λ p. Leaves g p f left.content left.device) (sym s.phases) left.leaves) (subst (λ c. IsCut g c image) (sym left.same) cut)
+    cut_stands g f left.device image left.content (omega (arith, (h.memory.sizes).enough)) s.state (subst (λ p. Leaves g p f left.content left.device) (sym s.phases) left.leaves) (subst (λ c. IsCut g c image) (sym left.same) cut)

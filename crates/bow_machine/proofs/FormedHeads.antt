@@ -44,7 +44,7 @@ pub record IsHead (g : Geometry) (m : Memory) (r : Request) (e : Extent) (p : Li
   pub not_0 : e.first + r.done ≢ 0
   pub kept_back : may_be_written (kind_at m.kinds (e.first + r.done)) ≡ false
 
-passes : {A : Type 0} (o : Option A) → is_none o ≡ true → o ≡ None
+pub passes : {A : Type 0} (o : Option A) → is_none o ≡ true → o ≡ None
 passes None is = refl
 passes (Some x) is = absurd (false≢true is)
 

@@ -1,31 +1,26 @@
 -- Once all was flushed, and no call has failed, whatever a cut leaves can be given up forward.
-use Rattle.std.proofs.Common.{ℕ, ◌<◌, ◌≡◌, ◌≢◌, ◌⊎◌, Bool, true, false, List, [], ◌∷◌, Option, Some, None, arith, refl, sym, ap, ◌∙◌, subst, subst₂, inl, inr, Contains}
+use Rattle.std.proofs.Common.{ℕ, ◌<◌, ◌≡◌, ◌≢◌, Bool, true, false, List, [], ◌∷◌, Option, Some, None, arith, refl, sym, ap, ◌∙◌, subst, inl, inr, Contains}
 use Rattle.bow_units.specs.declared.sizes.Geometry.{Geometry}
-use Rattle.bow_units.specs.Magics.{HasMagic}
-use Rattle.bow_units.specs.declared.requests.Phase.{Phase}
-use Rattle.bow_units.specs.declared.requests.Phase.TheVariants.{Trim, Arming, Checkpoint, Deciding, Committed}
+use Rattle.bow_units.specs.declared.requests.Phase.TheVariants.{Arming, Checkpoint, Deciding}
 use Rattle.bow_log.specs.Generations.{Generation}
 use Rattle.bow_chain.specs.Contents.{Contents}
 use Rattle.bow_chain.specs.Sound.{log_in}
 use Rattle.bow_chain.proofs.Counting.{some_inj}
 use Rattle.bow_flat.specs.Flat.{Flat, May, after}
 use Rattle.bow_flat.specs.Flat.Event.{Flushes}
-use Rattle.bow_flat.proofs.Valid.{stays_valid}
 use Rattle.bow_guard.specs.Cuts.{Candidates, IsFlushed}
-use Rattle.bow_guard.specs.Phases.{IsDeciding}
 use Rattle.bow_guard.proofs.Device.{one_of}
-use Rattle.bow_machine.specs.Memory.{Memory, Hand, Committing, CommitAct, FlushesAll, ReadsCurrent, WritesBlock0, FlushesDecision, place_with, place_of}
+use Rattle.bow_machine.specs.Memory.{Memory, CommitAct, FlushesAll, ReadsCurrent, WritesBlock0, FlushesDecision, place_with}
 use Rattle.bow_machine.specs.MemoryIsSound.{FoundIn}
-use Rattle.bow_machine.proofs.Held.{device_of, IsKept, Kept, CommitHeld, HandHeld, IsHeld}
+use Rattle.bow_machine.proofs.Held.{Kept, CommitHeld, HandHeld, IsHeld}
 use Rattle.bow_machine.specs.Standing.{IsStanding}
-use Rattle.bow_machine.proofs.Joined.{held as whole, kept_on_disk}
+use Rattle.bow_machine.proofs.Joined.{held as whole}
 use Rattle.bow_machine.specs.Ahead.{Shows0, BeginsLog, IsLed}
 use Rattle.bow_machine.specs.Orders.{DecidingStaysLed}
 use Rattle.bow_machine.specs.Forward.{HasFlushed, CommitHasFlushed, FlushedIsAhead}
 use Rattle.bow_machine.proofs.Hands.{kept_over}
-use Rattle.bow_machine.proofs.Consequences.{standing_in}
 use Rattle.bow_machine.proofs.Cuts.{machine_cut}
-use Rattle.bow_machine.proofs.Orders.{deciding_is_flushed}
+use Rattle.bow_machine.proofs.Orders.{flushed_stands, deciding_is_flushed}
 use Rattle.bow_machine.proofs.Ahead.{led_is_ahead}
 
 module _ (g : Geometry) (m : Memory) (now : Contents) (may : Candidates) (f : Flat) where
@@ -40,16 +35,7 @@ module _ (g : Geometry) (m : Memory) (now : Contents) (may : Candidates) (f : Fl
       (checkpoint_flushed m.log (subst (λ p. Kept g m now may f p m.log) is s.kept))
 
   checkpoint_stands : IsStanding g m now may f → m.phase ≡ Checkpoint → IsStanding g m now may (after g.blocks Flushes f)
-  checkpoint_stands s is = record {
-    sound = s.sound;
-    blocks = s.blocks;
-    state = stays_valid g.blocks Flushes f s.state tt tt;
-    phases = s.phases;
-    held = s.held;
-    shown = s.shown;
-    kept = kept_on_disk g m now may (after g.blocks Flushes f) m.phase m.log (checkpoint_holds (whole g m now may f s) is);
-    in_hand = s.in_hand;
-  }
+  checkpoint_stands s is = flushed_stands g m now may f s (checkpoint_holds (whole g m now may f s) is)
 
   -- with one candidate for each block but 0, the machine is led for the state flushed
   module _ (s : IsHeld g m now may f) (led : IsLed g m now may f) (log : Generation) (some : m.log ≡ Some log) (above : 0 < log.current) (inside : log.current < g.blocks)
@@ -64,7 +50,7 @@ module _ (g : Geometry) (m : Memory) (now : Contents) (may : Candidates) (f : Fl
     only b up on v has = one_of (now b) v (subst (λ vs. Contains vs v) (one b up on) has)
 
     shows_current : Shows0 may f.current log.current
-    shows_current v has = subst (May (f.current 0)) (sym (only log.current above inside v has)) (reads 0 (omega (arith, s.sizes.enough)))
+    shows_current v has = subst (May (f.current 0)) (sym (only log.current above inside v has)) (reads 0 (omega (arith, s.memory.sizes.enough)))
 
     led_flushed : ((v : List ℕ) (head : Generation) → Contains (may 0) v → BeginsLog m.phase v → log_in g v ≡ Some head → log ≡ head) → (m.phase ≡ Arming → ⊥) → IsLed g m now may (after g.blocks Flushes f)
     led_flushed heads not_arming = record {
@@ -79,13 +65,13 @@ module _ (g : Geometry) (m : Memory) (now : Contents) (may : Candidates) (f : Fl
     }
 
   some_zero : IsHeld g m now may f → IsFlushed g now may → (v : List ℕ) → Contains (may 0) v → v ≡ now 0
-  some_zero s flushed v has = one_of (now 0) v (subst (λ vs. Contains vs v) (flushed 0 (omega (arith, s.sizes.enough))) has)
+  some_zero s flushed v has = one_of (now 0) v (subst (λ vs. Contains vs v) (flushed 0 (omega (arith, s.memory.sizes.enough))) has)
 
   in_checkpoint : IsHeld g m now may f → IsLed g m now may f → m.phase ≡ Checkpoint → IsFlushed g now may → (log : Option Generation) → m.log ≡ log → Kept g m now may f Checkpoint log → IsLed g m now may (after g.blocks Flushes f)
   in_checkpoint s led is flushed None some k = absurd k
   in_checkpoint s led is flushed (Some log) some k =
       let valid = k.leaves.log.behind.valid in
-      led_flushed s led log some valid.current_not_0 k.current_inside (λ b up on. flushed b on)
+      led_flushed s led log some valid.current_not_0 k.sound.generation.current_inside (λ b up on. flushed b on)
       (λ v head has begins spells.
       let here : log_in g (now 0) ≡ Some log = led.led is log some in
       some_inj (sym here ∙ ap (log_in g) (sym (some_zero s flushed v has)) ∙ spells))
@@ -95,7 +81,7 @@ module _ (g : Geometry) (m : Memory) (now : Contents) (may : Candidates) (f : Fl
   in_deciding s led is None some k = absurd k
   in_deciding s led is (Some log) some k =
       let valid = k.leaves.log.behind.valid in
-      led_flushed s led log some valid.current_not_0 k.current_inside (λ b up on. k.leaves.one b up on)
+      led_flushed s led log some valid.current_not_0 k.sound.generation.current_inside (λ b up on. k.leaves.one b up on)
       (λ v head has begins spells. elim begins [
         | inl at ↦ absurd (let clash : Deciding ≡ Checkpoint = sym is ∙ at in grind arith)
         | inr magic ↦ some_inj (sym some ∙ led.deciding is v head has magic spells)

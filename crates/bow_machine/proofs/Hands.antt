@@ -1,10 +1,11 @@
 -- What is in hand changes, or a request is answered, and all else stays as it was.
-use Rattle.std.proofs.Common.{ℕ, ◌+◌, ◌≡◌, List, [], Option, Some, None, refl, sym, ◌∙◌, subst}
+use Rattle.std.proofs.Common.{ℕ, ◌≡◌, List, [], Option, Some, None, refl, sym, ◌∙◌, subst}
 use Rattle.std.specs.List.{AllByRecursion as Each}
 use Rattle.bow_units.specs.declared.sizes.Geometry.{Geometry}
 use Rattle.bow_units.specs.declared.sizes.Extent.{Extent}
 use Rattle.bow_units.specs.declared.requests.Phase.{Phase}
 use Rattle.bow_units.specs.declared.requests.Phase.TheVariants.{Trim, Arming, Checkpoint, Deciding, Committed}
+use Rattle.bow_units.specs.declared.requests.Op.{Op}
 use Rattle.bow_units.specs.declared.requests.Outcome.{Outcome}
 use Rattle.bow_log.specs.Generations.{Generation}
 use Rattle.bow_chain.specs.Contents.{Contents}
@@ -12,13 +13,13 @@ use Rattle.bow_flat.specs.Flat.{Flat, Event}
 use Rattle.bow_guard.specs.Cuts.{Candidates}
 use Rattle.bow_guard.specs.Device.{Device}
 use Rattle.bow_guard.specs.Phases.{Leaves}
-use Rattle.bow_ranges.specs.Kinds.{kind_at, holds, is_free, count_of}
+use Rattle.bow_ranges.specs.Kinds.{kind_at, holds}
 use Rattle.bow_queue.specs.declared.tickets.Ticket.{Ticket}
 use Rattle.bow_machine.specs.Requests.{Request, request_of, without_request}
 use Rattle.bow_machine.specs.Memory.{Memory, Hand, Empty, reserved}
 use Rattle.bow_machine.specs.Steps.{Step, moved, answered_for, without_waiting}
-use Rattle.bow_machine.specs.MemoryIsSound.{IsRequest, is_touched}
-use Rattle.bow_machine.proofs.Held.{device_of, OwnTickets, IsKept, Kept, ForCommand, HandHeld, IsHeld}
+use Rattle.bow_machine.specs.MemoryIsSound.{IsRequest, IsForCommand, LogIsSound}
+use Rattle.bow_machine.proofs.Held.{device_of, OwnTickets, IsKept, Kept, HandHeld, IsHeld}
 use Rattle.bow_machine.specs.Laws.{after_all, AllowsAll}
 use Rattle.bow_machine.proofs.RequestLists.{each_without}
 use Rattle.bow_machine.proofs.Tickets.{own_without}
@@ -39,16 +40,9 @@ module _ (g : Geometry) (now : Contents) (may : Candidates) (f : Flat) (m : Memo
     leaves = subst (λ e. Leaves g phase f (now log.current) (with_reserved e)) (sym same) k.leaves;
     clean = λ is. let c = k.clean is in record { log = c.log; older = c.older };
     arming = λ is. let a = k.arming is in (record { log = a.0.log; older = a.0.older }, a.1);
-    own = k.own;
-    fits = k.fits;
-    current = k.current;
-    current_inside = k.current_inside;
-    only_current = k.only_current;
-    none_saved = k.none_saved;
+    sound = subst (λ (e : Extent). LogIsSound g m.kinds m.clean m.trimmed e.count log) (sym same) k.sound;
     hidden = k.hidden;
-    room = subst (λ (e : Extent). count_of is_free m.kinds + 2 + log.sequence + count_of is_touched m.kinds + e.count ≡ m.trimmed) (sym same) k.room;
     trimmed = k.trimmed;
-    bounded = k.bounded;
   }
     where
       with_reserved : Extent → Device
@@ -68,12 +62,9 @@ module _ (g : Geometry) (now : Contents) (may : Candidates) (f : Flat) (m : Memo
 
   pub stands_handed : Each IsRequest requests → OwnTickets requests → HandHeld g (handed m requests hand) hand now may m.log → IsHeld g m now may f → IsHeld g (handed m requests hand) now may f
   stands_handed each own held k = record {
-    sizes = k.sizes;
+    memory = record { sizes = k.memory.sizes; table = k.memory.table; requests = each; tickets = own };
     state = k.state;
     phases = k.phases;
-    table = k.table;
-    requests = each;
-    tickets = own;
     held = k.held;
     shown = k.shown;
     kept = kept_handed m.phase m.log k.kept;
@@ -83,11 +74,11 @@ module _ (g : Geometry) (now : Contents) (may : Candidates) (f : Flat) (m : Memo
 module _ (g : Geometry) (now : Contents) (may : Candidates) (f : Flat) (m : Memory) where
   -- something else in hand
   pub rehanded : (hand : Hand) → reserved hand ≡ reserved m.hand → HandHeld g (record m { hand = hand }) hand now may m.log → IsHeld g m now may f → IsHeld g (record m { hand = hand }) now may f
-  rehanded hand same held k = stands_handed g now may f m m.requests hand same k.requests k.tickets held k
+  rehanded hand same held k = stands_handed g now may f m m.requests hand same k.memory.requests k.memory.tickets held k
 
   -- with nothing in hand, a request is answered
   pub answered_stands : (t : Ticket) → IsHeld g (emptied m) now may f → IsHeld g (without_waiting (emptied m) t) now may f
-  answered_stands t k = stands_handed g now may f (emptied m) (without_request t m.requests) Empty refl (each_without t m.requests k.requests) (own_without t m.requests k.tickets) tt k
+  answered_stands t k = stands_handed g now may f (emptied m) (without_request t m.requests) Empty refl (each_without t m.requests k.memory.requests) (own_without t m.requests k.memory.tickets) tt k
 
 -- the disk holds the same
 pub same_disk : (g : Geometry) (m : Memory) (f : Flat) (now new_now : Contents) (may new_may : Candidates) → new_now ≡ now → new_may ≡ may → IsHeld g m now may f → IsHeld g m new_now new_may f
@@ -105,7 +96,7 @@ pub goes_on : (g : Geometry) (m : Memory) (now : Contents) (may : Candidates) (f
 goes_on g m now may f happens none k = subst (λ es. Keeps g now may f (moved m es)) (sym none) (tt, k)
 
 -- an act that ends what was in hand: the command's request is answered
-pub ends : (g : Geometry) (m : Memory) (now : Contents) (may : Candidates) (f : Flat) (t : Ticket) (outcome : Request → Outcome) (happens : List Event) → ForCommand m.requests t → AllowsAll g.blocks happens f
+pub ends : {op : Op} (g : Geometry) (m : Memory) (now : Contents) (may : Candidates) (f : Flat) (t : Ticket) (outcome : Request → Outcome) (happens : List Event) → IsForCommand m.requests t op → AllowsAll g.blocks happens f
     → IsHeld g (emptied m) now may (after_all g.blocks happens f) → Keeps g now may f (answered_for (emptied m) (request_of t m.requests) outcome (λ r. happens))
 ends g m now may f t outcome happens waits allowed k = subst (λ o. Keeps g now may f (answered_for (emptied m) o outcome (λ r. happens))) (sym waits.waits) (allowed, answered_stands g now may (after_all g.blocks happens f) m waits.command.ticket k)
 
@@ -122,14 +113,7 @@ kept_over g m log now new_now may new_may f h phase next told arming unknown tri
   leaves = leaves;
   clean = λ is. let c = k.clean is in record { log = c.log; older = c.older };
   arming = λ is. let a = k.arming (arming is) in (record { log = a.0.log; older = a.0.older }, a.1);
-  own = k.own;
-  fits = k.fits;
-  current = k.current;
-  current_inside = k.current_inside;
-  only_current = k.only_current;
-  none_saved = k.none_saved;
+  sound = k.sound;
   hidden = λ b on is. unknown b (k.hidden b on is);
-  room = k.room;
   trimmed = trimmed ∙ k.trimmed;
-  bounded = k.bounded;
 }

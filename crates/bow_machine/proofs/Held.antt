@@ -4,11 +4,12 @@ use Rattle.std.specs.Prelude.{ℕ, ◌+◌, ◌*◌, ◌<◌, ◌≤◌, ◌≡�
 use Rattle.std.specs.List.{AllByRecursion as Each}
 use Rattle.bow_units.specs.declared.sizes.Geometry.{Geometry}
 use Rattle.bow_units.specs.Sizes.{IsValid}
+use Rattle.bow_units.specs.declared.requests.Op.TheVariants.{Prepare, Commit}
 use Rattle.bow_units.specs.declared.requests.Phase.{Phase}
 use Rattle.bow_units.specs.declared.requests.Phase.TheVariants.{Trim, Arming, Checkpoint, Deciding, Committed}
 use Rattle.bow_units.specs.declared.statuses.Kind.{Kind}
 use Rattle.bow_units.specs.declared.statuses.Kind.TheVariants as kinds
-use Rattle.bow_log.specs.Generations.{Generation, GenerationFits, room}
+use Rattle.bow_log.specs.Generations.{Generation}
 use Rattle.bow_chain.specs.Contents.{Contents}
 use Rattle.bow_chain.specs.Sound.{log_in}
 use Rattle.bow_copy.specs.Acts.{acts_before_log}
@@ -19,13 +20,12 @@ use Rattle.bow_flat.specs.Valid.{IsState}
 use Rattle.bow_guard.specs.Cuts.{Candidates, IsFlushed}
 use Rattle.bow_guard.specs.Device.{IsClean}
 use Rattle.bow_guard.specs.Phases.{IsPending, Leaves}
-use Rattle.bow_queue.specs.declared.tickets.Ticket.{Ticket}
-use Rattle.bow_queue.specs.Requests.{is_command}
-use Rattle.bow_ranges.specs.Kinds.{kind_at, holds, is_free, count_of}
+use Rattle.bow_ranges.specs.Kinds.{kind_at, is_free, count_of}
 use Rattle.bow_machine.specs.Requests.{Request, request_of}
 use Rattle.bow_machine.specs.Memory.{Memory, Batch, Hand, Empty, Batching, Preparing, Committing, PrepareAct, ReadsBlock0, WritesCurrent, WritesBackup, FlushesCopies, WritesFirstLog, FlushesFirstLog, CommitAct, FlushesAll, ReadsCurrent, WritesBlock0, FlushesDecision, reserved, place_of}
 use Rattle.bow_machine.specs.Tasks.{spelling}
 pub use Rattle.bow_machine.specs.MemoryIsSound.{IsRequest, IsTable, is_touched, ForWrite, PicksHeld, FoundIn}
+use Rattle.bow_machine.specs.MemoryIsSound.{IsForCommand, LogIsSound, LinkIsReady, CopyIsReady, MoveIsReady}
 pub use Rattle.bow_machine.specs.Standing.{device_of, IsHidden}
 
 -- each request waits under a ticket of its own
@@ -50,16 +50,9 @@ pub record IsKept (g : Geometry) (m : Memory) (now : Contents) (may : Candidates
   pub leaves : Leaves g phase f (now log.current) (device_of m log older clean_log clean_older now may)
   pub clean : m.clean ≡ true → IsClean (device_of m log older clean_log clean_older now may)
   pub arming : phase ≡ Arming → IsClean (device_of m log older clean_log clean_older now may) × ((b : ℕ) → b < g.blocks → kind_at m.kinds b ≢ kinds.Saved)
-  pub own : log.restoring ≡ false
-  pub fits : GenerationFits log
-  pub current : kind_at m.kinds log.current ≡ kinds.Current
-  pub current_inside : log.current < g.blocks
-  pub only_current : (b : ℕ) → b < g.blocks → kind_at m.kinds b ≡ kinds.Current → b ≡ log.current
-  pub none_saved : m.clean ≡ true → (b : ℕ) → b < g.blocks → kind_at m.kinds b ≢ kinds.Saved
+  pub sound : LogIsSound g m.kinds m.clean m.trimmed (reserved m.hand).count log
   pub hidden : (b : ℕ) → b < g.blocks → IsHidden (kind_at m.kinds b) → (f.current b ≡ None) × (f.pending b ≡ None)
-  pub room : Room m log
   pub trimmed : f.trimmed ≡ m.trimmed
-  pub bounded : m.trimmed ≤ g.blocks
 
 -- what is kept, by phase; there is a log in memory exactly from Arming to Deciding
 abbrev pub Kept : Geometry → Memory → Contents → Candidates → Flat → Phase → Option Generation → Type 0
@@ -75,37 +68,42 @@ Kept g m now may f phase log = ⊥
 
 -- a link, before its log: the picked block comes to hold the full log
 pub record LinkHeld (g : Geometry) (m : Memory) (log : Generation) (dest done : ℕ) (slots : List (List ℕ)) (now : Contents) (may : Candidates) : Type 0 where
-  pub inside : dest < g.blocks
-  pub kind : kind_at m.kinds dest ≡ kinds.Backup
-  pub full : length log.entries ≡ room g.block_size
-  pub buffer : slots ≡ spelling g log ∷ []
+  pub ready : LinkIsReady g m.kinds log dest slots
   pub wrote : 1 ≤ done → now dest ≡ spelling g log
   pub durable : 2 ≤ done → may dest ≡ now dest ∷ []
 
 -- a copy, before its log: what it read is still in place, and what it wrote is what it read
 pub record CopyHeld (g : Geometry) (m : Memory) (log : Generation) (source dest count done : ℕ) (slots : List (List ℕ)) (now : Contents) (may : Candidates) : Type 0 where
-  pub some : 1 ≤ count
-  pub few : count ≤ 8
-  pub not_full : length log.entries < room g.block_size
-  pub source_inside : source + count ≤ g.blocks
-  pub dest_inside : dest + count ≤ g.blocks
-  pub sources : (j : ℕ) → j < count → (kind_at m.kinds (source + j) ≡ kinds.Unchanged) ⊎ (kind_at m.kinds (source + j) ≡ kinds.Backup)
-  pub dests : (j : ℕ) → j < count → kind_at m.kinds (dest + j) ≡ kinds.Backup
-  pub apart : (source + count ≤ dest) ⊎ (dest + count ≤ source)
-  pub buffer : length slots ≡ min done count
+  pub ready : CopyIsReady g m.kinds log source dest count done slots
   pub read : (j : ℕ) → j < length slots → now (source + j) ≡ slice_index_or slots j []
   pub wrote : (j : ℕ) → j < count → count + j < done → now (dest + j) ≡ slice_index_or slots j []
   pub durable : 2 * count < done → (j : ℕ) → j < count → may (dest + j) ≡ now (dest + j) ∷ []
 
 -- a move, before its log: the new place comes to hold what the current block 0 holds
 pub record MoveHeld (g : Geometry) (m : Memory) (log : Generation) (from to done : ℕ) (slots : List (List ℕ)) (now : Contents) (may : Candidates) : Type 0 where
-  pub from_current : from ≡ log.current
-  pub inside : to < g.blocks
-  pub kind : kind_at m.kinds to ≡ kinds.Backup
-  pub buffer : length slots ≡ min done 1
+  pub ready : MoveIsReady g m.kinds log from to done slots
   pub read : 1 ≤ done → slots ≡ now from ∷ []
   pub wrote : 2 ≤ done → now to ≡ now from
   pub durable : 3 ≤ done → may to ≡ now to ∷ []
+
+-- the same places, with other acts done and another buffer
+pub copy_on : (g : Geometry) (table : List Kind) (log : Generation) (source dest count done next : ℕ) (slots buffer : List (List ℕ)) → length buffer ≡ min next count
+    → CopyIsReady g table log source dest count done slots → CopyIsReady g table log source dest count next buffer
+copy_on g table log source dest count done next slots buffer long h = record {
+  some = h.some;
+  few = h.few;
+  not_full = h.not_full;
+  source_inside = h.source_inside;
+  dest_inside = h.dest_inside;
+  sources = h.sources;
+  dests = h.dests;
+  apart = h.apart;
+  buffer = long;
+}
+
+pub move_on : (g : Geometry) (table : List Kind) (log : Generation) (from to done next : ℕ) (slots buffer : List (List ℕ)) → length buffer ≡ min next 1
+    → MoveIsReady g table log from to done slots → MoveIsReady g table log from to next buffer
+move_on g table log from to done next slots buffer long h = record { from_current = h.from_current; inside = h.inside; kind = h.kind; buffer = long }
 
 -- a job, before its log is written; but for a rewrite the log is clean until then
 abbrev pub JobHeld : Geometry → Memory → Generation → Job → ℕ → List (List ℕ) → Contents → Candidates → Type 0
@@ -139,30 +137,28 @@ CommitHeld g m again ReadsCurrent now may = FoundIn m again × IsFlushed g now m
 CommitHeld g m again (WritesBlock0 content) now may = FoundIn m again × IsFlushed g now may × (content ≡ now (place_of m 0))
 CommitHeld g m again FlushesDecision now may = (m.phase ≡ Deciding) × (now 0 ≡ now (place_of m 0))
 
--- the command in hand still waits
-pub record ForCommand (requests : List Request) (ticket : Ticket) : Type 0 where
-  pub command : Request
-  pub waits : request_of ticket requests ≡ Some command
-  pub is_one : is_command command.op ≡ true
-
 -- what is in hand has read and written what it should
 abbrev pub HandHeld : Geometry → Memory → Hand → Contents → Candidates → Option Generation → Type 0
 HandHeld g m Empty now may log = Unit {0}
 HandHeld g m (Batching b) now may (Some log) = BatchHeld g m b now may log
 HandHeld g m (Batching b) now may None = ⊥
-HandHeld g m (Preparing t c b act) now may log = PrepareHeld g m c b act now × ForCommand m.requests t
-HandHeld g m (Committing t again act) now may log = CommitHeld g m again act now may × ForCommand m.requests t
+HandHeld g m (Preparing t c b act) now may log = PrepareHeld g m c b act now × IsForCommand m.requests t Prepare
+HandHeld g m (Committing t again act) now may log = CommitHeld g m again act now may × IsForCommand m.requests t Commit
 
 -- ----------------------------------------------------------------------------------------------------------------
 
+-- what memory keeps of the kinds, and of the requests that wait
+pub record HasMemory (g : Geometry) (kinds_now : List Kind) (waiting : List Request) : Type 0 where
+  pub sizes : IsValid g
+  pub table : IsTable g kinds_now
+  pub requests : Each IsRequest waiting
+  pub tickets : OwnTickets waiting
+
 -- The machine stands for the flat state: the disk shows it, a cut leaves what stands for it, and what is in hand is so.
 pub record IsHeld (g : Geometry) (m : Memory) (now : Contents) (may : Candidates) (f : Flat) : Type 0 where
-  pub sizes : IsValid g
+  pub memory : HasMemory g m.kinds m.requests
   pub state : IsState f
   pub phases : f.phase ≡ m.phase
-  pub table : IsTable g m.kinds
-  pub requests : Each IsRequest m.requests
-  pub tickets : OwnTickets m.requests
   pub held : (b : ℕ) → b < g.blocks → Contains (may b) (now b)
   pub shown : (b : ℕ) → b < g.blocks → May (f.current b) (now (place_of m b))
   pub kept : Kept g m now may f m.phase m.log

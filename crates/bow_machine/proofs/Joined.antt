@@ -1,5 +1,5 @@
 -- What the machine stands for, as its definition says it, and as the proofs carry it.
-use Rattle.std.proofs.Common.{ℕ, zero, suc, ◌+◌, ◌-◌, ◌*◌, ◌^◌, ◌<◌, ◌≤◌, ◌≡◌, ◌≢◌, ◌⊎◌, min, Bool, true, false, List, [], ◌∷◌, length}
+use Rattle.std.proofs.Common.{ℕ, zero, suc, ◌+◌, ◌-◌, ◌*◌, ◌<◌, ◌≤◌, ◌≡◌, ◌≢◌, ◌⊎◌, Bool, List, [], ◌∷◌, length}
 use Rattle.std.proofs.Common.{get_or, slice_index_or, Option, Some, None, arith, refl, sym, ap, ◌∙◌, subst, inl, inr}
 use Rattle.std.specs.List.{AllByRecursion as Each}
 use Rattle.std.proofs.lemmas.Bool.{cases_lt, false≢true}
@@ -18,7 +18,6 @@ use Rattle.bow_copy.specs.declared.jobs.Job.TheVariants as jobs
 use Rattle.bow_machine.proofs.BatchActs.{lead_act, lead_copy, copy_reads as next_read, copy_writes as next_write, copy_flush as next_flush}
 use Rattle.bow_flat.specs.Flat.{Flat}
 use Rattle.bow_guard.specs.Cuts.{Candidates}
-use Rattle.bow_queue.specs.Requests.{is_command}
 use Rattle.bow_ranges.specs.Kinds.{kind_at, is_free}
 use Rattle.bow_machine.specs.Requests.{Request}
 use Rattle.bow_machine.specs.Memory.{Memory, Hand, Empty, Batching, Preparing, Committing, PrepareAct, ReadsBlock0}
@@ -31,7 +30,7 @@ use Rattle.bow_machine.specs.Standing.{HandStands, IsStanding}
 use Rattle.bow_machine.proofs.Held.{IsRequest, is_touched, IsKept, Kept, LinkHeld, CopyHeld, MoveHeld, JobHeld, PrepareHeld}
 use Rattle.bow_machine.proofs.Held.{CommitHeld, HandHeld, IsHeld}
 use Rattle.bow_machine.proofs.SoundLists.{own_tickets}
-use Rattle.bow_machine.proofs.SoundCommands.{none_counted}
+use Rattle.bow_machine.proofs.Counts.{none_counted}
 
 -- ----------------------------------------------------------------------------------------------------------------
 -- What is kept.
@@ -51,16 +50,9 @@ module _ (g : Geometry) (m : Memory) (now : Contents) (may : Candidates) (f : Fl
     leaves = k.leaves;
     clean = λ is. k.clean (inl is);
     arming = λ is. (k.clean (inr is), none is);
-    own = l.own;
-    fits = l.fits;
-    current = l.current;
-    current_inside = l.generation.current_inside;
-    only_current = l.only_current;
-    none_saved = l.none_saved;
+    sound = l;
     hidden = k.hidden;
-    room = l.room;
     trimmed = k.trimmed;
-    bounded = l.bounded;
   }
 
   kept_whole : (phase : Phase) (log : Option Generation) → length m.kinds ≡ g.blocks
@@ -181,10 +173,7 @@ module _ (g : Geometry) (m : Memory) (now : Contents) (may : Candidates) (log : 
   link_held : (dest done : ℕ) → LinkIsReady g m.kinds log dest slots → ActsStand (jobs.Link dest) done slots now may
       → LinkHeld g m log dest done slots now may
   link_held dest done l a = record {
-    inside = l.inside;
-    kind = l.kind;
-    full = l.full;
-    buffer = l.buffer;
+    ready = l;
     wrote = λ some. a.wrote dest 0 (0, omega (arith, some), refl) ∙ ap (λ vs. slice_index_or vs 0 []) l.buffer;
     durable = λ both. a.durable dest 0 (0, omega (arith, both), refl) (1, omega (arith, both), refl);
   }
@@ -204,7 +193,7 @@ module _ (g : Geometry) (m : Memory) (now : Contents) (may : Candidates) (log : 
       writes : (i block slot : ℕ) → i < done → get_or (acts_before_log (jobs.Link dest)) i acts.End ≡ acts.Write block slot → now block ≡ slice_index_or slots slot []
       writes zero block slot below is =
           ap now (sym (write_block dest 0 block slot is)) ∙ h.wrote (omega (arith, below))
-          ∙ ap (λ vs. slice_index_or vs 0 []) (sym h.buffer) ∙ ap (λ s. slice_index_or slots s []) (write_slot dest 0 block slot is)
+          ∙ ap (λ vs. slice_index_or vs 0 []) (sym h.ready.buffer) ∙ ap (λ s. slice_index_or slots s []) (write_slot dest 0 block slot is)
       writes (suc zero) block slot below is = write_flushes block slot (sym is)
       writes (suc (suc i)) block slot below is = ends_not (acts.Write block slot) is (λ e. absurd (grind (arith, e)))
 
@@ -219,10 +208,7 @@ module _ (g : Geometry) (m : Memory) (now : Contents) (may : Candidates) (log : 
   move_held : (from to done : ℕ) → MoveIsReady g m.kinds log from to done slots
       → ActsStand (jobs.Move from to) done slots now may → MoveHeld g m log from to done slots now may
   move_held from to done l a = record {
-    from_current = l.from_current;
-    inside = l.inside;
-    kind = l.kind;
-    buffer = l.buffer;
+    ready = l;
     read = λ some. one_slot slots (omega (arith, some, l.buffer)) ∙ ap (λ v. v ∷ []) (sym (a.read from 0 (0, omega (arith, some), refl)));
     wrote = λ two. a.wrote to 0 (1, omega (arith, two), refl) ∙ sym (a.read from 0 (0, omega (arith, two), refl));
     durable = λ all. a.durable to 0 (1, omega (arith, all), refl) (2, omega (arith, all), refl);
@@ -269,15 +255,7 @@ module _ (g : Geometry) (m : Memory) (now : Contents) (may : Candidates) (log : 
     copy_held : CopyIsReady g m.kinds log source dest count done slots → ActsStand copied done slots now may
         → CopyHeld g m log source dest count done slots now may
     copy_held l a = record {
-      some = l.some;
-      few = l.few;
-      not_full = l.not_full;
-      source_inside = l.source_inside;
-      dest_inside = l.dest_inside;
-      sources = l.sources;
-      dests = l.dests;
-      apart = l.apart;
-      buffer = l.buffer;
+      ready = l;
       read = λ j below. a.read (source + j) j (j, omega (arith, below, l.buffer), copy_reads source dest count from onto j (omega (arith, below, l.buffer)));
       wrote = λ j below tried. a.wrote (dest + j) j (wrote_one j below tried);
       durable = λ all j below. a.durable (dest + j) j (wrote_one j below (omega (arith, all, below))) (2 * count, all, copy_ends source dest count from onto);
@@ -298,7 +276,7 @@ module _ (g : Geometry) (m : Memory) (now : Contents) (may : Candidates) (log : 
       read = λ block slot was. elim (act was.0 was.1) [
         | inl reads ↦
             let is = sym reads.1 ∙ was.2 in
-            ap now (sym (read_block (source + was.0) was.0 block slot is)) ∙ h.read was.0 (omega (arith, h.buffer, was.1, reads.0))
+            ap now (sym (read_block (source + was.0) was.0 block slot is)) ∙ h.read was.0 (omega (arith, h.ready.buffer, was.1, reads.0))
             ∙ ap (λ s. slice_index_or slots s []) (read_slot (source + was.0) was.0 block slot is)
         | inr (inl writes) ↦ read_writes block slot (dest + writes.0) writes.0 (sym was.2 ∙ writes.3)
         | inr (inr flush) ↦ read_flushes block slot (sym was.2 ∙ flush.1)
@@ -321,10 +299,10 @@ module _ (g : Geometry) (m : Memory) (now : Contents) (may : Candidates) (log : 
     }
       where
         from : source + count ≤ 1048576
-        from = omega (arith, h.source_inside, sizes.few)
+        from = omega (arith, h.ready.source_inside, sizes.few)
 
         onto : dest + count ≤ 1048576
-        onto = omega (arith, h.dest_inside, sizes.few)
+        onto = omega (arith, h.ready.dest_inside, sizes.few)
 
         act : (i : ℕ) → i < done → ((i < count) × (get_or (acts_before_log copied) i acts.End ≡ acts.Read (source + i) i))
             ⊎ (((j : ℕ) × (j < count) × (i ≡ count + j) × (get_or (acts_before_log copied) i acts.End ≡ acts.Write (dest + j) j))
@@ -390,11 +368,11 @@ module _ (g : Geometry) (m : Memory) (now : Contents) (may : Candidates) where
   }
   hand_held sizes (Preparing t c b act) log is l d = (
     prepare_held c b act l.0 (subst (λ o. PrepareStands g o c b act now) (sym is) d),
-    record { command = l.1.command; waits = l.1.waits; is_one = ap is_command l.1.asks },
+    l.1,
   )
   hand_held sizes (Committing t again act) log is l d = (
     commit_held again act l.0 d,
-    record { command = l.1.command; waits = l.1.waits; is_one = ap is_command l.1.asks },
+    l.1,
   )
 
   -- in Arming there is a log
@@ -435,12 +413,9 @@ module _ (g : Geometry) (m : Memory) (now : Contents) (may : Candidates) where
 pub held : (g : Geometry) (m : Memory) (now : Contents) (may : Candidates) (f : Flat) → IsStanding g m now may f
     → IsHeld g m now may f
 held g m now may f s = record {
-  sizes = s.sound.sizes;
+  memory = record { sizes = s.sound.sizes; table = s.sound.table; requests = all_requests g m.requests s.sound.requests; tickets = own_tickets m.requests s.sound.rising };
   state = s.state;
   phases = s.phases;
-  table = s.sound.table;
-  requests = all_requests g m.requests s.sound.requests;
-  tickets = own_tickets m.requests s.sound.rising;
   held = s.held;
   shown = s.shown;
   kept = kept_whole g m now may f m.phase m.log s.sound.table.size s.sound.log s.kept;

@@ -19,6 +19,7 @@ pub mod BatchStands
 pub mod Counts
 pub mod Tickets
 pub mod Hands
+pub mod FirstLogs
 pub mod Prepared
 pub mod BatchAnswers
 pub mod BatchSteps
@@ -31,6 +32,7 @@ pub mod BatchCopies
 pub mod BatchCopyLogs
 pub mod Batches
 pub mod FormedHeads
+pub mod FormedJobs
 pub mod FormedBatches
 pub mod Workers
 pub mod Committed
@@ -67,6 +69,7 @@ pub mod SoundReady
 pub mod SoundTies
 pub mod Orders
 pub mod SoundTold
+pub mod SoundDeeds
 pub mod Blocks
 pub mod SoundPast
 pub mod Forward

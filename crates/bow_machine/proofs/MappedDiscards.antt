@@ -86,12 +86,9 @@ module _ (g : Geometry) (m : Memory) (now : Contents) (may : Candidates) (f : Fl
 
   discard_standing : IsTable g new → Kept g n now may flat_discarded m.phase m.log → HandHeld g n m.hand now may m.log → IsHeld g n now may flat_discarded
   discard_standing table kept hand = record {
-    sizes = s.sizes;
+    memory = record { sizes = s.memory.sizes; table = table; requests = s.memory.requests; tickets = s.memory.tickets };
     state = stays_valid g.blocks (Discards e) f s.state tt (λ is. settled.0 (sym s.phases ∙ is), λ is. settled.1 (sym s.phases ∙ is));
     phases = s.phases;
-    table = table;
-    requests = s.requests;
-    tickets = s.tickets;
     held = s.held;
     shown = λ x on. may_dropped (discards e x) (f.current x) (now (place_of m x)) (s.shown x on);
     kept = kept;
@@ -103,10 +100,10 @@ module _ (g : Geometry) (m : Memory) (now : Contents) (may : Candidates) (f : Fl
 
   -- in Trim
   fits : (above_0 e).first + (above_0 e).count ≤ length m.kinds
-  fits = let parts = above_fits g e (s.sizes).enough inside in omega (arith, parts.1, (s.table).size)
+  fits = let parts = above_fits g e (s.memory.sizes).enough inside in omega (arith, parts.1, (s.memory.table).size)
 
   table_trimmed : m.phase ≡ Trim → IsTable g new
-  table_trimmed is = let parts = above_fits g e (s.sizes).enough inside in subst (IsTable g) (sym (in_phase Trim is)) (table_with g m.kinds (above_0 e) Free (λ x. grind arith) parts.1 (inl parts.0) s.table)
+  table_trimmed is = let parts = above_fits g e (s.memory.sizes).enough inside in subst (IsTable g) (sym (in_phase Trim is)) (table_with g m.kinds (above_0 e) Free (λ x. grind arith) parts.1 (inl parts.0) s.memory.table)
 
   trimmed_more : m.phase ≡ Trim → IsTrimmed g m.kinds f.trim → IsTrimmed g new (trim_discarded f.phase f.trim e)
   trimmed_more is t x above on = subst₂ (λ (a : Bool) (k : Kind). ((a ≡ true) × (k ≡ Free)) ⊎ ((a ≡ false) × (k ≡ Unchanged))) (sym trim) (sym kind) (go (discards e x) (f.trim x) (kind_at m.kinds x) (t x above on))
@@ -132,7 +129,7 @@ module _ (g : Geometry) (m : Memory) (now : Contents) (may : Candidates) (f : Fl
     kinds_are = in_phase Checkpoint is
 
     freed_or_same : (x : ℕ) → x < g.blocks → ((kind_at m.kinds x ≡ Changed) × (holds e x ≡ true) × (kind_at new x ≡ Free)) ⊎ (kind_at new x ≡ kind_at m.kinds x)
-    freed_or_same x on = elim (kind_freed m.kinds e but x (omega (arith, on, (s.table).size))) [
+    freed_or_same x on = elim (kind_freed m.kinds e but x (omega (arith, on, (s.memory.table).size))) [
       | inl (was, held, out, free) ↦ inl (was, held, ap (λ (t : List Kind). kind_at t x) kinds_are ∙ free)
       | inr same ↦ inr (ap (λ (t : List Kind). kind_at t x) kinds_are ∙ same)
     ]
@@ -141,11 +138,11 @@ module _ (g : Geometry) (m : Memory) (now : Contents) (may : Candidates) (f : Fl
     change x on = elim (freed_or_same x on) [ inl (was, held, free) ↦ inr (inl was, inr free) | inr same ↦ inl same ]
 
     table_freed_now : IsTable g new
-    table_freed_now = subst (IsTable g) (sym kinds_are) (table_freed g m.kinds e but (omega (arith, (s.sizes).enough)) s.table)
+    table_freed_now = subst (IsTable g) (sym kinds_are) (table_freed g m.kinds e but (omega (arith, (s.memory.sizes).enough)) s.memory.table)
 
     module _ (log : Generation) (k : IsKept g m now may f Checkpoint log) where
       new_room : Room n log
-      new_room = let sum = free_and_touched_freed m.kinds e but in let free = ap (count_of is_free) kinds_are in let touched = ap (count_of is_touched) kinds_are in omega (arith, k.room, sum, free, touched)
+      new_room = let sum = free_and_touched_freed m.kinds e but in let free = ap (count_of is_free) kinds_are in let touched = ap (count_of is_touched) kinds_are in omega (arith, k.sound.room, sum, free, touched)
 
       guarded : (older : List Generation) (clean_log : Generation) (clean_older : List Generation)
           → Guarded g f.used f.saved (device_of m log older clean_log clean_older now may)
@@ -167,7 +164,7 @@ module _ (g : Geometry) (m : Memory) (now : Contents) (may : Candidates) (f : Fl
       ]
         where
           above : (x : ℕ) → kind_at m.kinds x ≡ Changed → x ≢ 0
-          above x was z = absurd (let y : Sector0 ≡ Changed = sym (s.table).zeroth ∙ ap (kind_at m.kinds) (sym z) ∙ was in grind arith)
+          above x was z = absurd (let y : Sector0 ≡ Changed = sym (s.memory.table).zeroth ∙ ap (kind_at m.kinds) (sym z) ∙ was in grind arith)
 
           discarded : (x : ℕ) → kind_at m.kinds x ≡ Changed → holds e x ≡ true → discards e x ≡ true
           discarded x was held = rw (positive x (above x was), held) refl
@@ -176,7 +173,7 @@ module _ (g : Geometry) (m : Memory) (now : Contents) (may : Candidates) (f : Fl
       log_discarded = kept_open g m n now now may may f flat_discarded log change refl new_room k.trimmed refl guarded hidden k
 
       hand_discarded : m.log ≡ Some log → HandHeld g n m.hand now may m.log
-      hand_discarded some = subst (λ l. HandHeld g n m.hand now may l) (sym some) (hand_open g m n log now now may may change refl (record { copies = λ x on kind. refl; zeroth = refl; moved = λ moves. refl; durable = λ x on kind one. one }) k.current_inside m.hand refl command refl (λ h w at. (w.waits, for_inside g m h.ticket w)) (subst (λ l. HandHeld g m m.hand now may l) some s.in_hand))
+      hand_discarded some = subst (λ l. HandHeld g n m.hand now may l) (sym some) (hand_open g m n log now now may may change refl (record { copies = λ x on kind. refl; zeroth = refl; moved = λ moves. refl; durable = λ x on kind one. one }) k.sound.generation.current_inside m.hand refl command refl (λ h w at. (w.waits, for_inside g m h.ticket w)) (subst (λ l. HandHeld g m m.hand now may l) some s.in_hand))
 
   pub standing_discarded : IsHeld g n now may flat_discarded
   standing_discarded = go m.phase refl m.log refl s.kept
@@ -188,5 +185,5 @@ module _ (g : Geometry) (m : Memory) (now : Contents) (may : Candidates) (f : Fl
       go Checkpoint is None none k = absurd k
       go Checkpoint is (Some log) some k = discard_standing (table_freed_now is) (subst₂ (λ p l. Kept g n now may flat_discarded p l) (sym is) (sym some) (log_discarded is log k)) (hand_discarded is log k some)
       go Deciding is l log k = absurd (settled.1 is)
-      go Committed is None none k = discard_standing (subst (IsTable g) (sym (in_phase Committed is)) s.table) (subst₂ (λ p l. Kept g n now may flat_discarded p l) (sym is) (sym none) (pending_discarded g f g.blocks e may k.0, λ x above on. ap (λ (t : List Kind). kind_at t x) (in_phase Committed is) ∙ k.1 x above on)) (empty (λ e. absurd (let z : Committed ≡ Checkpoint = sym is ∙ e in grind arith)))
+      go Committed is None none k = discard_standing (subst (IsTable g) (sym (in_phase Committed is)) s.memory.table) (subst₂ (λ p l. Kept g n now may flat_discarded p l) (sym is) (sym none) (pending_discarded g f g.blocks e may k.0, λ x above on. ap (λ (t : List Kind). kind_at t x) (in_phase Committed is) ∙ k.1 x above on)) (empty (λ e. absurd (let z : Committed ≡ Checkpoint = sym is ∙ e in grind arith)))
       go Committed is (Some log) some k = absurd k

@@ -52,12 +52,7 @@ module _ (g : Geometry) (m : Memory) (now : Contents) (may : Candidates) (f : Fl
       leaves = leaves_read phase log some (device_of m log k.older k.clean_log k.clean_older now may) refl k.leaves;
       clean = k.clean;
       arming = k.arming;
-      own = k.own;
-      fits = k.fits;
-      current = k.current;
-      current_inside = k.current_inside;
-      only_current = k.only_current;
-      none_saved = k.none_saved;
+      sound = k.sound;
       hidden = λ x inside hidden. let none = k.hidden x inside hidden in (
         elim (cases_eq x b) [
           | inl same ↦ put_here f.current b (narrowed (f.current b) seen) x same ∙ narrowed_none (f.current b) seen (ap f.current (sym same) ∙ none.0)
@@ -65,9 +60,7 @@ module _ (g : Geometry) (m : Memory) (now : Contents) (may : Candidates) (f : Fl
         ],
         none.1,
       );
-      room = k.room;
       trimmed = k.trimmed;
-      bounded = k.bounded;
     }
 
     kept_read : (phase : Phase) (log : Option Generation) → m.log ≡ log → Kept g m now may f phase log → Kept g m now may flat_read phase log
@@ -84,12 +77,9 @@ module _ (g : Geometry) (m : Memory) (now : Contents) (may : Candidates) (f : Fl
 
     pub standing_read : IsHeld g m now may flat_read
     standing_read = record {
-      sizes = s.sizes;
+      memory = s.memory;
       state = stays_valid g.blocks (Reads b seen) f s.state (s.shown b on) tt;
       phases = s.phases;
-      table = s.table;
-      requests = s.requests;
-      tickets = s.tickets;
       held = s.held;
       shown = λ x inside. may_read f.current b x seen (now (place_of m x)) (λ same. ap (λ y. now (place_of m y)) (sym same)) (s.shown x inside);
       kept = kept_read m.phase m.log refl s.kept;
@@ -103,16 +93,13 @@ module _ (g : Geometry) (m : Memory) (now : Contents) (may : Candidates) (f : Fl
     flat_flushed = after g.blocks Flushes f
 
     some : 0 < g.blocks
-    some = omega (arith, (s.sizes).enough)
+    some = omega (arith, (s.memory.sizes).enough)
 
     flush_standing : Kept g m now new_may flat_flushed m.phase m.log → HandHeld g m m.hand now new_may m.log → IsHeld g m now new_may flat_flushed
     flush_standing kept hand = record {
-      sizes = s.sizes;
+      memory = s.memory;
       state = stays_valid g.blocks Flushes f s.state tt tt;
       phases = s.phases;
-      table = s.table;
-      requests = s.requests;
-      tickets = s.tickets;
       held = λ x inside. subst (λ vs. Contains vs (now x)) (sym (all x inside)) (0, omega arith, refl);
       shown = s.shown;
       kept = kept;
@@ -126,7 +113,7 @@ module _ (g : Geometry) (m : Memory) (now : Contents) (may : Candidates) (f : Fl
     empty other = subst (λ hand. HandHeld g m hand now new_may m.log) (sym (hand_empty g m m.hand now may m.log command other s.in_hand)) tt
 
     log_flushed : (log : Generation) → IsKept g m now may f Checkpoint log → IsKept g m now new_may flat_flushed Checkpoint log
-    log_flushed log k = kept_open g m m now now may new_may f flat_flushed log (open_change_same g m.kinds) refl k.room k.trimmed refl
+    log_flushed log k = kept_open g m m now now may new_may f flat_flushed log (open_change_same g m.kinds) refl k.sound.room k.trimmed refl
         (λ older clean_log clean_older. flushed g f.used f.saved (device_of m log older clean_log clean_older now may) (device_of m log older clean_log clean_older now new_may) (λ x. refl) all (s.held 0 some) (record { log = refl; older = refl; clean_log = refl; clean_older = refl }) (λ x. refl) (λ x. refl))
         (λ x inside hidden. let none = (k.hidden x inside hidden).0 in (none, none)) k
 
@@ -141,7 +128,7 @@ module _ (g : Geometry) (m : Memory) (now : Contents) (may : Candidates) (f : Fl
         go Trim is (Some log) some k = absurd k
         go Arming is l log k = absurd (settled.0 is)
         go Checkpoint is None none k = absurd k
-        go Checkpoint is (Some log) some k = flush_standing (subst₂ (λ p l. Kept g m now new_may flat_flushed p l) (sym is) (sym some) (log_flushed log k)) (hand_flushed log some k.current_inside)
+        go Checkpoint is (Some log) some k = flush_standing (subst₂ (λ p l. Kept g m now new_may flat_flushed p l) (sym is) (sym some) (log_flushed log k)) (hand_flushed log some k.sound.generation.current_inside)
         go Deciding is l log k = absurd (settled.1 is)
         go Committed is None none k = flush_standing (subst₂ (λ p l. Kept g m now new_may flat_flushed p l) (sym is) (sym none) (pending none, k.1)) (empty (λ e. absurd (let n : Committed ≡ Checkpoint = sym is ∙ e in grind arith)))
         go Committed is (Some log) some k = absurd k

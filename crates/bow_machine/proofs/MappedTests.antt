@@ -1,19 +1,18 @@
 -- What the tests say of a request that passed them.
 use Rattle.std.proofs.Common.{ℕ, ◌+◌, ◌*◌, ◌<◌, ◌≤◌, ◌≡◌, ◌≢◌, ◌==◌, Bool, true, false, cond, List, [], ◌∷◌, length, take, drop, Option, Some, None, arith, refl, sym, ap, ◌∙◌, subst, inl, inr}
-use Rattle.std.proofs.lemmas.Bool.{or_right, eq-eqb, false≢true}
+use Rattle.std.proofs.lemmas.Bool.{or_right, or_cases, and_parts, eqb-true, eq-eqb, false≢true}
 use Rattle.std.proofs.lemmas.List.{take-take}
 use Rattle.bow_units.specs.declared.sizes.Extent.{Extent}
 use Rattle.bow_units.specs.declared.sizes.Geometry.{Geometry}
 use Rattle.bow_units.specs.Sizes.{IsValid}
 use Rattle.bow_units.proofs.PatternGroups.{has_groups}
-use Rattle.bow_units.specs.Magics.{log_magic, restoring_magic, HasMagic}
+use Rattle.bow_units.specs.Magics.{log_magic, restoring_magic, HasMagic, IsPlain}
 use Rattle.bow_units.specs.declared.requests.Op.TheVariants.{Read, Write, Discard}
 use Rattle.bow_units.specs.declared.requests.Phase.{Phase}
 use Rattle.bow_units.specs.declared.requests.Phase.TheVariants.{Trim, Arming, Checkpoint, Deciding, Committed}
 use Rattle.bow_units.specs.declared.requests.Outcome.{Outcome}
 use Rattle.bow_units.specs.declared.requests.Outcome.TheVariants.{OutOfRange, ReservedMagic}
 use Rattle.bow_flat.specs.Flat.{block_at}
-use Rattle.bow_flat.specs.Valid.{HasNoMagic}
 use Rattle.bow_queue.specs.Extents.{is_on_device}
 use Rattle.bow_queue.specs.declared.tickets.Ticket.{Ticket}
 use Rattle.bow_machine.specs.Requests.{begins, has_magic, is_reserved, unsettled, refusal}
@@ -62,8 +61,9 @@ for_inside g m t w =
     omega (arith, (write_inside g m.phase w.extent w.payload passed).0, w.left)
 
 -- ----------------------------------------------------------------------------------------------------------------
--- No magic is written to block 0.
+-- Magics, and that none is written to block 0.
 
+-- the test for a magic is its definition
 begins_taken : (xs ys : List ℕ) → take (length xs) ys ≡ xs → begins xs ys ≡ true
 begins_taken [] ys e = refl
 begins_taken (x ∷ xs) [] e = absurd (grind arith)
@@ -72,16 +72,27 @@ begins_taken (x ∷ xs) (y ∷ ys) e =
     let rest : take (length xs) ys ≡ xs = cc e in
     rw (eq-eqb x y head, begins_taken xs ys rest) refl
 
-has_it : (bytes : List ℕ) → HasMagic bytes → has_magic bytes ≡ true
-has_it bytes (inl is) = rw (begins_taken log_magic bytes is) refl
-has_it bytes (inr is) = or_right (begins log_magic bytes) (begins restoring_magic bytes) (begins_taken restoring_magic bytes is)
+taken_begins : (xs ys : List ℕ) → begins xs ys ≡ true → take (length xs) ys ≡ xs
+taken_begins [] ys e = grind arith
+taken_begins (x ∷ xs) [] e = absurd (false≢true e)
+taken_begins (x ∷ xs) (y ∷ ys) e =
+    let parts = and_parts _ _ e in
+    let head : x ≡ y = eqb-true x y parts.0 in
+    ap (λ z. z ∷ take (length xs) ys) (sym head) ∙ ap (λ zs. x ∷ zs) (taken_begins xs ys parts.1)
+
+pub magic_is : (bytes : List ℕ) → has_magic bytes ≡ true → HasMagic bytes
+magic_is bytes h = elim (or_cases (begins log_magic bytes) (begins restoring_magic bytes) h) [ inl is ↦ inl (taken_begins log_magic bytes is) | inr is ↦ inr (taken_begins restoring_magic bytes is) ]
+
+pub is_magic : (bytes : List ℕ) → HasMagic bytes → has_magic bytes ≡ true
+is_magic bytes (inl is) = rw (begins_taken log_magic bytes is) refl
+is_magic bytes (inr is) = or_right (begins log_magic bytes) (begins restoring_magic bytes) (begins_taken restoring_magic bytes is)
 
 block_size_4 : (g : Geometry) → IsValid g → 4 ≤ g.block_size
 block_size_4 g sizes = let size = has_groups g.block_size sizes.size in omega (arith, size)
 
 pub no_magic : (g : Geometry) (e : Extent) (p : List ℕ) (done : ℕ) → IsValid g → is_reserved e p ≡ false → e.first + done ≡ 0
-    → HasNoMagic (block_at g.block_size p done)
-no_magic g e p done sizes passed zeroth magic = false≢true (sym passed ∙ rw (first, has_it p whole) refl)
+    → IsPlain (block_at g.block_size p done)
+no_magic g e p done sizes passed zeroth magic = false≢true (sym passed ∙ rw (first, is_magic p whole) refl)
   where
     first : (e.first == 0) ≡ true
     first = grind arith

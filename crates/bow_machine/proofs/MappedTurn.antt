@@ -14,7 +14,7 @@ use Rattle.bow_log.specs.Generations.{Generation}
 use Rattle.bow_chain.specs.Contents.{Contents}
 use Rattle.bow_flat.specs.Flat.{Flat, May, added, after, block_at}
 use Rattle.bow_flat.specs.Flat.Event.{Writes, Fails, Reads, Discards, Flushes}
-use Rattle.bow_flat.specs.Valid.{HasNoMagic}
+use Rattle.bow_units.specs.Magics.{IsPlain}
 use Rattle.bow_flat.proofs.Valid.{stays_valid}
 use Rattle.bow_guard.specs.Cuts.{Candidates}
 use Rattle.bow_queue.specs.declared.tickets.Ticket.{Ticket}
@@ -29,7 +29,7 @@ use Rattle.bow_machine.specs.MemoryIsSound.{IsRequest, ForWrite}
 use Rattle.bow_machine.proofs.Held.{BatchHeld, HandHeld, IsHeld}
 use Rattle.bow_machine.specs.Laws.{after_all, AllowsAll}
 use Rattle.bow_machine.proofs.RequestLists.{found_ticket, found_request}
-use Rattle.bow_machine.proofs.Tickets.{no_command}
+use Rattle.bow_machine.proofs.SoundLists.{other_command}
 use Rattle.bow_queue.specs.Requests.{is_command}
 use Rattle.bow_machine.proofs.Mapped.{NotInHand, standing_without, standing_with}
 use Rattle.bow_machine.proofs.MappedTests.{write_inside, read_inside, discard_inside, settled_phase, no_magic}
@@ -92,8 +92,8 @@ module _ (g : Geometry) (m : Memory) (now : Contents) (may : Candidates) (f : Fl
           let held = (batch_held g m (Batching b) b now may m.log refl h).1 in
           let w = held.for_write in
           unlike b held.phase is w (some_request w.write r (sym w.waits ∙ ap (λ t. request_of t m.requests) (same_ticket_of b.ticket r.ticket e) ∙ found_here))
-      go (Preparing t c b act) is h e = no_command r t m.requests found_here plain h.1 (same_ticket_of t r.ticket e)
-      go (Committing t again act) is h e = no_command r t m.requests found_here plain h.1 (same_ticket_of t r.ticket e)
+      go (Preparing t c b act) is h e = other_command r t Prepare m.requests found_here refl plain h.1 (same_ticket_of t r.ticket e)
+      go (Committing t again act) is h e = other_command r t Commit m.requests found_here refl plain h.1 (same_ticket_of t r.ticket e)
 
   refused : (op : Op) → r.op ≡ op → is_command op ≡ false → (outcome : Outcome) → refusal g m.phase op ≡ Some outcome → NotInHand m.hand r.ticket
   refused op is plain outcome no_way = not_the_write (ap is_command is ∙ plain) (λ b phase at w same. absurd (let n : None ≡ Some outcome = sym w.passed ∙ ap (λ (x : Request). refusal g m.phase x.op) same ∙ ap (refusal g m.phase) is ∙ no_way in grind arith))
@@ -102,7 +102,7 @@ module _ (g : Geometry) (m : Memory) (now : Contents) (may : Candidates) (f : Fl
   other_op op is plain unlike = not_the_write (ap is_command is ∙ plain) (λ b phase at w same. unlike w.extent w.payload (sym is ∙ ap (λ (x : Request). x.op) (sym same) ∙ w.op))
 
   is_request : IsRequest r
-  is_request = found_request ticket m.requests r s.requests found
+  is_request = found_request ticket m.requests r s.memory.requests found
 
   settled_now : unsettled m.phase ≡ None → (m.phase ≢ Arming) × (m.phase ≢ Deciding)
   settled_now h = settled_phase m.phase h
@@ -142,8 +142,8 @@ module _ (g : Geometry) (m : Memory) (now : Contents) (may : Candidates) (f : Fl
       abbrev content : List ℕ
       content = next_block g r
 
-      plain : block ≡ 0 → HasNoMagic content
-      plain zeroth = subst (λ o. HasNoMagic (block_at g.block_size (payload_of o) r.done)) (sym op) (no_magic g e p r.done s.sizes (write_inside g m.phase e p passed).1 zeroth)
+      plain : block ≡ 0 → IsPlain content
+      plain zeroth = subst (λ o. IsPlain (block_at g.block_size (payload_of o) r.done)) (sym op) (no_magic g e p r.done s.memory.sizes (write_inside g m.phase e p passed).1 zeroth)
 
       one_more_done : IsRequest (record r { done = r.done + 1 })
       one_more_done = subst (λ o. r.done + 1 ≤ (extent_of o).count) (sym op) (omega (arith, below))

@@ -16,7 +16,7 @@ use Rattle.bow_guard.specs.Guard.{Guarded}
 use Rattle.bow_guard.proofs.Device.{loose_write, safe_tight}
 use Rattle.bow_guard.proofs.PhaseActs.{pending_written}
 use Rattle.bow_ranges.specs.Kinds.{kind_at, with_kind, is_free, count_of}
-use Rattle.bow_machine.specs.Memory.{Memory, has_command, has_move, may_be_written, is_direct, kind_written, kinds_written, place_of, place_with, reserved}
+use Rattle.bow_machine.specs.Memory.{Memory, has_command, has_move, may_be_written, is_direct, kind_written, kinds_written, place_of, place_with}
 use Rattle.bow_machine.specs.Steps.{one_block}
 use Rattle.bow_machine.specs.Calls.{WriteTried}
 use Rattle.bow_machine.proofs.MappedTests.{for_inside}
@@ -130,11 +130,41 @@ held_after block v now new_now may new_may x w has = elim (cases_eq x block) [
   | inr ne ↦ subst₂ (λ vs u. Contains vs u) (sym (w.given.others_may x ne)) (sym (w.given.others_now x ne)) has
 ]
 
+-- ----------------------------------------------------------------------------------------------------------------
+-- In Checkpoint block 0, or an open block, is written in place: as many blocks are free or touched as before.
+
+module _ (m : Memory) (b : ℕ) (fits : b < length m.kinds) (is : m.phase ≡ Checkpoint) where
+  pub open_changed : b ≢ 0 → IsOpen (kind_at m.kinds b) → kind_at (kinds_written m.phase m.kinds b) b ≡ Changed
+  open_changed ne is_open = written_here m.phase m.kinds b ne fits ∙ ap (λ (p : Phase). kind_written p (kind_at m.kinds b)) is ∙ open_written (kind_at m.kinds b) is_open
+
+  pub write_counts : (b ≡ 0) ⊎ ((b ≢ 0) × IsOpen (kind_at m.kinds b))
+      → count_of is_free (kinds_written m.phase m.kinds b) + count_of is_touched (kinds_written m.phase m.kinds b) ≡ count_of is_free m.kinds + count_of is_touched m.kinds
+  write_counts its_kind = elim its_kind [
+    | inl at_0 ↦ ap (λ (t : List Kind). count_of is_free t + count_of is_touched t) (kinds_at_0 m.phase m.kinds b at_0)
+    | inr (ne, is_open) ↦
+        let kind : kind_written m.phase (kind_at m.kinds b) ≡ Changed = ap (λ (p : Phase). kind_written p (kind_at m.kinds b)) is ∙ open_written (kind_at m.kinds b) is_open in
+        let table : kinds_written m.phase m.kinds b ≡ with_kind m.kinds (one_block b) Changed = kinds_above m.phase m.kinds b ne ∙ ap (with_kind m.kinds (one_block b)) kind in
+        let free = ap (count_of is_free) table in
+        let touched = ap (count_of is_touched) table in
+        let one_free = count_one m.kinds b Changed is_free fits in
+        let one_touched = count_one m.kinds b Changed is_touched fits in
+        omega (arith, free, touched, one_free, one_touched, open_counts (kind_at m.kinds b) is_open)
+  ]
+
+pub write_change : (g : Geometry) (m : Memory) (b : ℕ) → b < length m.kinds → m.phase ≡ Checkpoint → (b ≡ 0) ⊎ ((b ≢ 0) × IsOpen (kind_at m.kinds b)) → OpenChange g m.kinds (kinds_written m.phase m.kinds b)
+write_change g m b fits is its_kind x inside = elim its_kind [
+  | inl at_0 ↦ inl (ap (λ (t : List Kind). kind_at t x) (kinds_at_0 m.phase m.kinds b at_0))
+  | inr (ne, is_open) ↦ elim (cases_eq x b) [
+    | inl same ↦ inr (subst (λ y. IsOpen (kind_at m.kinds y)) (sym same) is_open, subst (λ y. IsOpen (kind_at (kinds_written m.phase m.kinds b) y)) (sym same) (inl (open_changed m b fits is ne is_open)))
+    | inr other ↦ inl (written_other m.phase m.kinds b x fits other)
+  ]
+]
+
 module _ (g : Geometry) (m : Memory) (b : ℕ) (v : List ℕ) (c : Option (List (List ℕ))) (now new_now : Contents) (may new_may : Candidates) (f : Flat)
     (s : IsHeld g m now may f) (on : b < g.blocks) (command : has_command m.hand ≡ false)
     (tried : WriteTried (place_of m b) v now new_now may new_may) (reads : May c (new_now (place_of m b))) (state : IsState (flat_written f b v c)) where
   fits : b < length m.kinds
-  fits = omega (arith, on, s.table.size)
+  fits = omega (arith, on, s.memory.table.size)
 
   -- In Trim, and once committed: each block lies in its own place, and nothing is in hand.
   module _ (none : m.log ≡ None) (other : m.phase ≢ Checkpoint) where
@@ -152,12 +182,9 @@ module _ (g : Geometry) (m : Memory) (b : ℕ) (v : List ℕ) (c : Option (List 
     plain_written : Kept g (memory_written m b) new_now new_may (flat_written f b v c) m.phase m.log
         → IsHeld g (memory_written m b) new_now new_may (flat_written f b v c)
     plain_written kept = record {
-      sizes = s.sizes;
+      memory = record { sizes = s.memory.sizes; table = table_written g m.phase m.kinds b on s.memory.table; requests = s.memory.requests; tickets = s.memory.tickets };
       state = state;
       phases = s.phases;
-      table = table_written g m.phase m.kinds b on s.table;
-      requests = s.requests;
-      tickets = s.tickets;
       held = λ x inside. held_after (place_of m b) v now new_now may new_may x tried (s.held x inside);
       shown = plain_shown;
       kept = kept;
@@ -199,12 +226,12 @@ module _ (g : Geometry) (m : Memory) (b : ℕ) (v : List ℕ) (c : Option (List 
     own_place x ne = ap (λ l. place_with l x) some ∙ rw (not_0 x ne) refl
 
     current_above : log.current ≢ 0
-    current_above e = absurd (let n : Current ≡ Sector0 = sym k.current ∙ ap (kind_at m.kinds) e ∙ s.table.zeroth in grind arith)
+    current_above e = absurd (let n : Current ≡ Sector0 = sym k.sound.current ∙ ap (kind_at m.kinds) e ∙ s.memory.table.zeroth in grind arith)
 
     -- block 0 at its current place, which no batch moves; or an open block
     which : ((b ≡ 0) × (has_move m.hand ≡ false)) ⊎ ((b ≢ 0) × IsOpen (kind_at m.kinds b))
     which = elim (or_cases (may_be_written (kind_at m.kinds b)) ((b == 0) && not (has_move m.hand)) (subst (λ p. is_direct m p b ≡ true) is direct)) [
-      | inl is_open ↦ inr (λ e. absurd (let n : may_be_written Sector0 ≡ true = ap may_be_written (sym s.table.zeroth ∙ ap (kind_at m.kinds) (sym e)) ∙ is_open in grind arith), open_kind (kind_at m.kinds b) is_open)
+      | inl is_open ↦ inr (λ e. absurd (let n : may_be_written Sector0 ≡ true = ap may_be_written (sym s.memory.table.zeroth ∙ ap (kind_at m.kinds) (sym e)) ∙ is_open in grind arith), open_kind (kind_at m.kinds b) is_open)
       | inr zeroth ↦ inl (let parts = and_parts (b == 0) (not (has_move m.hand)) zeroth in (eqb-true b 0 parts.0, not_moved (has_move m.hand) parts.1))
     ]
       where
@@ -214,7 +241,7 @@ module _ (g : Geometry) (m : Memory) (b : ℕ) (v : List ℕ) (c : Option (List 
 
     loose : IsOpen (kind_at m.kinds place) ⊎ (kind_at m.kinds place ≡ Current)
     loose = elim which [
-      | inl (at_0, unmoved) ↦ inr (ap (λ x. kind_at m.kinds (place_of m x)) at_0 ∙ ap (kind_at m.kinds) current_place ∙ k.current)
+      | inl (at_0, unmoved) ↦ inr (ap (λ x. kind_at m.kinds (place_of m x)) at_0 ∙ ap (kind_at m.kinds) current_place ∙ k.sound.current)
       | inr (ne, is_open) ↦ inl (subst (λ x. IsOpen (kind_at m.kinds x)) (sym (own_place b ne)) is_open)
     ]
 
@@ -222,32 +249,20 @@ module _ (g : Geometry) (m : Memory) (b : ℕ) (v : List ℕ) (c : Option (List 
     apart x tight e = loose_kind (kind_at m.kinds place) loose (subst (λ y. (kind_at m.kinds y ≡ Unchanged) ⊎ ((kind_at m.kinds y ≡ Backup) ⊎ (kind_at m.kinds y ≡ Sector0))) e tight)
 
     above : place ≢ 0
-    above e = apart 0 (inr (inr s.table.zeroth)) (sym e)
+    above e = apart 0 (inr (inr s.memory.table.zeroth)) (sym e)
+
+    -- block 0, or an open block
+    its_kind : (b ≡ 0) ⊎ ((b ≢ 0) × IsOpen (kind_at m.kinds b))
+    its_kind = elim which [ inl zeroth ↦ inl zeroth.0 | inr other ↦ inr other ]
 
     now_changed : b ≢ 0 → IsOpen (kind_at m.kinds b) → kind_at new b ≡ Changed
-    now_changed ne is_open = written_here m.phase m.kinds b ne fits ∙ ap (λ (p : Phase). kind_written p (kind_at m.kinds b)) is ∙ open_written (kind_at m.kinds b) is_open
+    now_changed = open_changed m b fits is
 
     change : OpenChange g m.kinds new
-    change x inside = elim which [
-      | inl (at_0, unmoved) ↦ inl (ap (λ (t : List Kind). kind_at t x) (kinds_at_0 m.phase m.kinds b at_0))
-      | inr (ne, is_open) ↦ elim (cases_eq x b) [
-        | inl same ↦ inr (subst (λ y. IsOpen (kind_at m.kinds y)) (sym same) is_open, subst (λ y. IsOpen (kind_at new y)) (sym same) (inl (now_changed ne is_open)))
-        | inr other ↦ inl (written_other m.phase m.kinds b x fits other)
-      ]
-    ]
+    change = write_change g m b fits is its_kind
 
     new_room : Room (memory_written m b) log
-    new_room = elim which [
-      | inl (at_0, unmoved) ↦ subst (λ (t : List Kind). count_of is_free t + 2 + log.sequence + count_of is_touched t + (reserved m.hand).count ≡ m.trimmed) (sym (kinds_at_0 m.phase m.kinds b at_0)) k.room
-      | inr (ne, is_open) ↦
-          let kind : kind_written m.phase (kind_at m.kinds b) ≡ Changed = ap (λ (p : Phase). kind_written p (kind_at m.kinds b)) is ∙ open_written (kind_at m.kinds b) is_open in
-          let table : new ≡ with_kind m.kinds (one_block b) Changed = kinds_above m.phase m.kinds b ne ∙ ap (with_kind m.kinds (one_block b)) kind in
-          let free = ap (count_of is_free) table in
-          let touched = ap (count_of is_touched) table in
-          let one_free = count_one m.kinds b Changed is_free fits in
-          let one_touched = count_one m.kinds b Changed is_touched fits in
-          omega (arith, k.room, free, touched, one_free, one_touched, open_counts (kind_at m.kinds b) is_open)
-    ]
+    new_room = let counts = write_counts m b fits is its_kind in omega (arith, k.sound.room, counts)
 
     module _ (older : List Generation) (clean_log : Generation) (clean_older : List Generation) where
       guarded : Guarded g f.used f.saved (device_of m log older clean_log clean_older now may)
@@ -282,17 +297,17 @@ module _ (g : Geometry) (m : Memory) (b : ℕ) (v : List ℕ) (c : Option (List 
 
         here : x ≡ b → ⊥
         here same = elim which [
-          | inl (at_0, unmoved) ↦ shown_kind (kind_at new x) hidden (inl (ap (λ (t : List Kind). kind_at t x) (kinds_at_0 m.phase m.kinds b at_0) ∙ ap (kind_at m.kinds) (same ∙ at_0) ∙ s.table.zeroth))
+          | inl (at_0, unmoved) ↦ shown_kind (kind_at new x) hidden (inl (ap (λ (t : List Kind). kind_at t x) (kinds_at_0 m.phase m.kinds b at_0) ∙ ap (kind_at m.kinds) (same ∙ at_0) ∙ s.memory.table.zeroth))
           | inr (ne, is_open) ↦ shown_kind (kind_at new x) hidden (inr (ap (kind_at new) same ∙ now_changed ne is_open))
         ]
 
     still : StillHeld g m log now new_now may new_may
     still = record {
       copies = λ x inside kind. tried.given.others_now x (apart x (elim kind [ inl u ↦ inl u | inr o ↦ inr (inl o) ]));
-      zeroth = tried.given.others_now 0 (apart 0 (inr (inr s.table.zeroth)));
+      zeroth = tried.given.others_now 0 (apart 0 (inr (inr s.memory.table.zeroth)));
       moved = λ moves. elim which [
         | inl (at_0, unmoved) ↦ absurd (let n : true ≡ false = sym moves ∙ unmoved in grind arith)
-        | inr (ne, is_open) ↦ tried.given.others_now log.current (λ e. open_current (kind_at m.kinds b) is_open (ap (kind_at m.kinds) (sym (own_place b ne) ∙ sym e) ∙ k.current))
+        | inr (ne, is_open) ↦ tried.given.others_now log.current (λ e. open_current (kind_at m.kinds b) is_open (ap (kind_at m.kinds) (sym (own_place b ne) ∙ sym e) ∙ k.sound.current))
       ];
       durable = λ x inside kind one.
           let ne = apart x (inr (inl kind)) in
@@ -312,27 +327,24 @@ module _ (g : Geometry) (m : Memory) (b : ℕ) (v : List ℕ) (c : Option (List 
           | inl (at_0, unmoved) ↦
               let up : x ≢ 0 = λ z. ne (z ∙ sym at_0) in
               let at : x ≡ log.current = sym (own_place x up) ∙ same ∙ ap (place_of m) at_0 ∙ current_place in
-              (k.hidden x inside (inr (inr (ap (kind_at m.kinds) at ∙ k.current)))).0
+              (k.hidden x inside (inr (inr (ap (kind_at m.kinds) at ∙ k.sound.current)))).0
           | inr (up, is_open) ↦ elim (cases_eq x 0) [
-            | inl z ↦ absurd (open_current (kind_at m.kinds b) is_open (ap (kind_at m.kinds) (sym (own_place b up) ∙ sym same ∙ ap (place_of m) z ∙ current_place) ∙ k.current))
+            | inl z ↦ absurd (open_current (kind_at m.kinds b) is_open (ap (kind_at m.kinds) (sym (own_place b up) ∙ sym same ∙ ap (place_of m) z ∙ current_place) ∙ k.sound.current))
             | inr ux ↦ absurd (ne (sym (own_place x ux) ∙ same ∙ own_place b up))
           ]
         ]
 
     checkpoint_written : IsHeld g (memory_written m b) new_now new_may (flat_written f b v c)
     checkpoint_written = record {
-      sizes = s.sizes;
+      memory = record { sizes = s.memory.sizes; table = table_written g m.phase m.kinds b on s.memory.table; requests = s.memory.requests; tickets = s.memory.tickets };
       state = state;
       phases = s.phases;
-      table = table_written g m.phase m.kinds b on s.table;
-      requests = s.requests;
-      tickets = s.tickets;
       held = λ x inside. held_after (place_of m b) v now new_now may new_may x tried (s.held x inside);
       shown = checkpoint_shown;
       kept = subst₂ (λ p l. Kept g (memory_written m b) new_now new_may (flat_written f b v c) p l) (sym is) (sym some)
           (kept_open g m (memory_written m b) now new_now may new_may f (flat_written f b v c) log change refl new_room k.trimmed refl (λ older clean_log clean_older. guarded older clean_log clean_older) still_hidden k);
       in_hand = subst (λ l. HandHeld g (memory_written m b) m.hand new_now new_may l) (sym some)
-          (hand_open g m (memory_written m b) log now new_now may new_may change refl still k.current_inside m.hand refl command refl (λ h w at. (w.waits, for_inside g m h.ticket w)) (subst (λ l. HandHeld g m m.hand now may l) some s.in_hand));
+          (hand_open g m (memory_written m b) log now new_now may new_may change refl still k.sound.generation.current_inside m.hand refl command refl (λ h w at. (w.waits, for_inside g m h.ticket w)) (subst (λ l. HandHeld g m m.hand now may l) some s.in_hand));
     }
 
   -- A write in place, or one that failed, of a block that may be written so.

@@ -7,7 +7,7 @@ use Rattle.bow_units.specs.declared.statuses.Kind.{Kind}
 use Rattle.bow_units.specs.declared.statuses.Kind.TheVariants.{Sector0, Unchanged}
 use Rattle.bow_chain.specs.Contents.{Contents, contents_of}
 use Rattle.bow_flat.specs.Flat.{Flat, opening}
-use Rattle.bow_flat.specs.Valid.{HasNoMagic}
+use Rattle.bow_units.specs.Magics.{IsPlain}
 use Rattle.bow_flat.proofs.Valid.{opening_valid}
 use Rattle.bow_guard.specs.Cuts.{Candidates}
 use Rattle.bow_ranges.specs.Kinds.{kind_at}
@@ -36,15 +36,12 @@ opened_table g sizes = record {
     only zero on is = refl
     only (suc b) on is = absurd (let n : Unchanged ≡ Sector0 = sym (unchanged_at g.blocks (suc b) (omega arith) on) ∙ is in grind arith)
 
-pub opening_held : (g : Geometry) (image : List (List ℕ)) → IsValid g → HasNoMagic (contents_of image 0)
+pub opening_held : (g : Geometry) (image : List (List ℕ)) → IsValid g → IsPlain (contents_of image 0)
     → IsHeld g (opened g.blocks) (contents_of image) (λ b. contents_of image b ∷ []) (opening image)
 opening_held g image sizes plain = record {
-  sizes = sizes;
+  memory = record { sizes = sizes; table = opened_table g sizes; requests = tt; tickets = tt };
   state = opening_valid image plain;
   phases = refl;
-  table = opened_table g sizes;
-  requests = tt;
-  tickets = tt;
   held = λ b on. (0, omega arith, refl);
   shown = λ b on. (0, omega arith, refl);
   kept = (λ b on v h. h, λ b above on. inr (refl, unchanged_at g.blocks b above on));

@@ -25,6 +25,7 @@ use Rattle.bow_machine.specs.Steps.{Step, prepare_step, act_step, step_of}
 use Rattle.bow_machine.proofs.Held.{device_of, Kept, IsHeld}
 use Rattle.bow_machine.proofs.Joined.{held as whole, kept_on_disk}
 use Rattle.bow_machine.specs.Orders.{DiskByReply, IsRead, OnlyReads, ReadsBeforeDecides, DecidingIsFlushed, ReadsBeforeArms}
+use Rattle.bow_machine.specs.Standing.{IsStanding}
 use Rattle.bow_machine.proofs.Hands.{kept_over}
 use Rattle.bow_machine.proofs.MappedWrites.{put_here, put_there}
 use Rattle.bow_guard.proofs.Device.{one_of}
@@ -203,30 +204,19 @@ deciding_holds g m now may f s is =
     subst (λ p. Kept g m now may (after g.blocks Flushes f) p m.log) (sym is)
     (decided_flushed g m now may f m.log (subst (λ p. Kept g m now may f p m.log) is s.kept))
 
--- the same as the proofs carry it
-pub deciding_held : (g : Geometry) (m : Memory) (now : Contents) (may : Candidates) (f : Flat) → IsHeld g m now may f
-    → m.phase ≡ Deciding → IsHeld g m now may (after g.blocks Flushes f)
-deciding_held g m now may f s is = record {
-  sizes = s.sizes;
-  state = stays_valid g.blocks Flushes f s.state tt tt;
-  phases = s.phases;
-  table = s.table;
-  requests = s.requests;
-  tickets = s.tickets;
-  held = s.held;
-  shown = s.shown;
-  kept = deciding_holds g m now may f s is;
-  in_hand = s.in_hand;
-}
-
-pub deciding_is_flushed : DecidingIsFlushed
-deciding_is_flushed g m now may f s is = record {
+-- where what is kept is so for the state flushed, all stands for it
+pub flushed_stands : (g : Geometry) (m : Memory) (now : Contents) (may : Candidates) (f : Flat) → IsStanding g m now may f
+    → Kept g m now may (after g.blocks Flushes f) m.phase m.log → IsStanding g m now may (after g.blocks Flushes f)
+flushed_stands g m now may f s kept = record {
   sound = s.sound;
   blocks = s.blocks;
   state = stays_valid g.blocks Flushes f s.state tt tt;
   phases = s.phases;
   held = s.held;
   shown = s.shown;
-  kept = kept_on_disk g m now may (after g.blocks Flushes f) m.phase m.log (deciding_holds g m now may f (whole g m now may f s) is);
+  kept = kept_on_disk g m now may (after g.blocks Flushes f) m.phase m.log kept;
   in_hand = s.in_hand;
 }
+
+pub deciding_is_flushed : DecidingIsFlushed
+deciding_is_flushed g m now may f s is = flushed_stands g m now may f s (deciding_holds g m now may f (whole g m now may f s) is)

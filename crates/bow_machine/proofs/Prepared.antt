@@ -2,33 +2,34 @@
 use Rattle.std.proofs.Common.{ℕ, zero, suc, ◌<◌, ◌≡◌, ◌≢◌, ◌⊎◌, Bool, true, false, not, List, [], ◌∷◌, length, Option, Some, None, arith, refl, sym, ap, ◌∙◌, subst, subst₂, inl, inr, Contains}
 use Rattle.std.proofs.lemmas.Bool.{cases_eq}
 use Rattle.bow_units.specs.declared.sizes.Geometry.{Geometry}
+use Rattle.bow_units.specs.declared.requests.Phase.{Phase}
 use Rattle.bow_units.specs.declared.requests.Phase.TheVariants.{Trim, Arming, Checkpoint}
 use Rattle.bow_units.specs.declared.statuses.Kind.{Kind}
 use Rattle.bow_units.specs.declared.statuses.Kind.TheVariants as kinds
 use Rattle.bow_log.specs.Generations.{Generation, IsGeneration}
-use Rattle.bow_log.proofs.Clean.{sized}
 use Rattle.bow_chain.specs.Contents.{Contents}
 use Rattle.bow_chain.specs.Sound.{log_in, sum_at}
 use Rattle.bow_flat.specs.Flat.{Flat, May, is_any, narrowed, after, Allows, count_below}
 use Rattle.bow_flat.specs.Flat.Event.{Arms, Prepares}
-use Rattle.bow_flat.specs.Valid.{IsPlainList}
+use Rattle.bow_flat.specs.Valid.{IsState, IsPlainList}
 use Rattle.bow_flat.proofs.Valid.{stays_valid}
 use Rattle.bow_guard.specs.Cuts.{Candidates, IsFlushed}
 use Rattle.bow_guard.specs.Device.{Device}
 use Rattle.bow_guard.specs.Phases.{IsPending, IsArming}
 use Rattle.bow_guard.proofs.PhaseActs.{pending_kept, arms, arms_written, arms_flushed}
-use Rattle.bow_ranges.specs.Kinds.{kind_at, with_kind, is_free, count_of}
+use Rattle.bow_ranges.specs.Kinds.{kind_at, is_free, count_of}
 use Rattle.bow_queue.specs.declared.tickets.Ticket.{Ticket}
 use Rattle.bow_machine.proofs.Known.{may_narrowed, narrowed_none}
-use Rattle.bow_machine.specs.Memory.{Memory, Empty, place_with, is_kind_current}
+use Rattle.bow_machine.specs.Memory.{Memory, Empty, place_with}
 use Rattle.bow_machine.specs.Calls.{WriteTried}
 use Rattle.bow_machine.specs.Tasks.{spelling}
-use Rattle.bow_machine.specs.Steps.{log_or_blank, log_of_memory, armed, first_log, copy_entry, one_block}
+use Rattle.bow_machine.specs.Steps.{log_or_blank, log_of_memory, armed, first_log, copy_entry}
 use Rattle.bow_machine.specs.MemoryIsSound.{PicksHeld}
 use Rattle.bow_machine.proofs.Held.{device_of, IsTrimmed, IsHidden, IsKept, Kept, IsHeld}
-use Rattle.bow_machine.proofs.Tables.{table_with}
-use Rattle.bow_machine.proofs.Counts.{count_trimmed, none_touched, count_most, free_two, touched_two, taken_c, taken_b, taken_other}
-use Rattle.bow_machine.proofs.Spelled.{spelled, sum_small}
+use Rattle.bow_machine.proofs.Counts.{none_counted, count_trimmed, free_two, taken_c, taken_b, taken_other}
+use Rattle.bow_machine.proofs.Spelled.{spelled}
+use Rattle.bow_machine.specs.MemoryIsSound.{LogIsSound, is_touched}
+use Rattle.bow_machine.proofs.FirstLogs.{still_untouched, armed_log, armed_table}
 use Rattle.bow_machine.proofs.Hands.{emptied, kept_over}
 
 not_free_0 : (k : Kind) → k ≡ kinds.Sector0 → k ≡ kinds.Free → ⊥
@@ -37,15 +38,6 @@ not_free_0 k zeroth free = grind arith
 -- a block of these kinds is not hidden
 not_hidden : (k : Kind) → IsHidden k → (k ≡ kinds.Sector0) ⊎ (k ≡ kinds.Unchanged) → ⊥
 not_hidden k hidden other = grind arith
-
-abbrev is_saved : Kind → Bool
-is_saved kinds.Saved = true
-is_saved kinds.Sector0 = false
-is_saved kinds.Current = false
-is_saved kinds.Unchanged = false
-is_saved kinds.Free = false
-is_saved kinds.Changed = false
-is_saved kinds.Backup = false
 
 -- a block other than 0 lies where its number says
 pub place_above : (log : Option Generation) (x : ℕ) → 0 < x → place_with log x ≡ x
@@ -74,10 +66,10 @@ module _ (g : Geometry) where
     in_arming is = arming_facts (emptied m) now may f m.log (subst (λ p. Kept g (emptied m) now may f p m.log) is k.kept)
 
     some : 0 < g.blocks
-    some = omega (arith, k.sizes.enough)
+    some = omega (arith, k.memory.sizes.enough)
 
     pub above_0 : (b : ℕ) → kind_at m.kinds b ≡ kinds.Free → 0 < b
-    above_0 zero free = absurd (not_free_0 (kind_at m.kinds 0) k.table.zeroth free)
+    above_0 zero free = absurd (not_free_0 (kind_at m.kinds 0) k.memory.table.zeroth free)
     above_0 (suc b) free = omega arith
 
     -- of a block that is free in Trim nothing is known
@@ -97,12 +89,9 @@ module _ (g : Geometry) where
     -- a copy of block 0 is written to a free block, or the write fails
     pub free_written : (new_now : Contents) (new_may : Candidates) (b : ℕ) (content : List ℕ) → m.phase ≡ Trim → b < g.blocks → kind_at m.kinds b ≡ kinds.Free → WriteTried b content now new_now may new_may → IsHeld g (emptied m) new_now new_may f
     free_written new_now new_may b content is on free tried = record {
-      sizes = k.sizes;
+      memory = k.memory;
       state = k.state;
       phases = k.phases;
-      table = k.table;
-      requests = k.requests;
-      tickets = k.tickets;
       held = λ x inside. elim (cases_eq x b) [
         | inl same ↦ subst (λ y. Contains (new_may y) (new_now y)) (sym same) tried.held
         | inr ne ↦ subst₂ (λ vs v. Contains vs v) (sym (tried.given.others_may x ne)) (sym (tried.given.others_now x ne)) (k.held x inside)
@@ -140,10 +129,10 @@ module _ (g : Geometry) where
     facts = in_trim m now may f k p.phase
 
     c_long : c < length m.kinds
-    c_long = omega (arith, p.c_inside, k.table.size)
+    c_long = omega (arith, p.c_inside, k.memory.table.size)
 
     b_long : b < length m.kinds
-    b_long = omega (arith, p.b_inside, k.table.size)
+    b_long = omega (arith, p.b_inside, k.memory.table.size)
 
     c_above : 0 < c
     c_above = above_0 m now may f k c p.c_free
@@ -155,7 +144,7 @@ module _ (g : Geometry) where
     shows x inside = subst (λ l. May (f.current x) (now (place_with l x))) facts.0 (k.shown x inside)
 
     counted : count_below f.trim g.blocks ≡ count_of is_free m.kinds
-    counted = count_trimmed g m.kinds f.trim k.table facts.2 (not_trimmed_0 m now may f k p.phase)
+    counted = count_trimmed g m.kinds f.trim k.memory.table facts.2 (not_trimmed_0 m now may f k p.phase)
 
     pub arms_allowed : Allows g.blocks (Arms now) f
     arms_allowed = (k.phases ∙ p.phase, omega (arith, counted, free_two m.kinds c b c_long b_long p.apart p.c_free p.b_free), shows)
@@ -171,7 +160,7 @@ module _ (g : Geometry) where
         | inr not_b ↦
             let same = taken_other m.kinds c b c_long b_long p.apart p.c_free p.b_free x not_c not_b in
             elim (cases_eq x 0) [
-              | inl zeroth ↦ inl (zeroth, same ∙ ap (kind_at m.kinds) zeroth ∙ k.table.zeroth)
+              | inl zeroth ↦ inl (zeroth, same ∙ ap (kind_at m.kinds) zeroth ∙ k.memory.table.zeroth)
               | inr above ↦ elim (facts.2 x (omega (arith, above)) inside) [ inl free ↦ inr (inr (inr (inl (free.0, same ∙ free.1)))) | inr used ↦ inr (inr (inr (inr (used.0, same ∙ used.1)))) ]
             ]
       ]
@@ -189,26 +178,17 @@ module _ (g : Geometry) where
       | inr (inr (inr (inr used))) ↦ absurd (not_hidden (kind_at next.kinds x) hidden (inr used.1))
     ]
 
-    not_saved : (x : ℕ) → x < g.blocks → kind_at next.kinds x ≢ kinds.Saved
-    not_saved x inside saved = elim (kinds_now x inside) [
-      | inl zeroth ↦ clash kinds.Sector0 zeroth.1 refl
-      | inr (inl is_c) ↦ clash kinds.Current is_c.1 refl
-      | inr (inr (inl is_b)) ↦ clash kinds.Backup is_b.1 refl
-      | inr (inr (inr (inl free))) ↦ clash kinds.Free free.1 refl
-      | inr (inr (inr (inr used))) ↦ clash kinds.Unchanged used.1 refl
-    ]
-      where
-        clash : (kind : Kind) → kind_at next.kinds x ≡ kind → is_saved kind ≡ false → ⊥
-        clash kind is none = let e : true ≡ false = ap is_saved (sym saved ∙ is) ∙ none in absurd (grind arith)
+    -- in Trim each block but 0 is free or unchanged
+    free_or_not : (x : ℕ) → 0 < x → x < g.blocks → (kind_at m.kinds x ≡ kinds.Free) ⊎ (kind_at m.kinds x ≡ kinds.Unchanged)
+    free_or_not x above inside = elim (facts.2 x above inside) [ inl free ↦ inl free.1 | inr used ↦ inr used.1 ]
 
-    is_log : IsGeneration g first
-    is_log = record {
-      few = omega (arith, (sized g.block_size k.sizes.size).least);
-      current_not_0 = c_above;
-      current_inside = p.c_inside;
-      each = (record { some = omega arith; source_inside = omega (arith, k.sizes.enough); dest_inside = omega (arith, p.b_inside); apart = inl (omega (arith, b_above)); dest_not_0 = b_above }, tt);
-      start = (refl, refl, tt);
-    }
+    sound_log : LogIsSound g next.kinds false (count_of is_free m.kinds) 0 first
+    sound_log = armed_log g m c b k.memory.sizes k.memory.table free_or_not p content
+
+    not_saved : (x : ℕ) → x < g.blocks → kind_at next.kinds x ≢ kinds.Saved
+    not_saved x inside saved =
+        let none : is_touched (kind_at next.kinds x) ≡ false = none_counted is_touched next.kinds x (still_untouched g m c b k.memory.sizes k.memory.table free_or_not p) (omega (arith, (armed_table g m c b k.memory.sizes k.memory.table free_or_not p).size, inside)) in
+        let clash : true ≡ false = ap is_touched (sym saved) ∙ none in absurd (grind arith)
 
     sums : sum_at 0 (now b ∷ []) ≡ sum_at 0 (content ∷ [])
     sums = ap (λ v. sum_at 0 (v ∷ [])) wrote_b
@@ -230,45 +210,22 @@ module _ (g : Geometry) where
       older = [];
       clean_log = first;
       clean_older = [];
-      leaves = arms g f g.blocks device (copy_entry 0 b 1 (content ∷ [])) flushed refl zeroth is_log refl refl refl refl sums (taken_b m.kinds c b c_long b_long p.apart p.c_free p.b_free) (grind arith) (wrote_b ∙ read) unchanged;
+      leaves = arms g f g.blocks device (copy_entry 0 b 1 (content ∷ [])) flushed refl zeroth sound_log.generation refl refl refl refl sums (taken_b m.kinds c b c_long b_long p.apart p.c_free p.b_free) (grind arith) (wrote_b ∙ read) unchanged;
       clean = λ is. absurd (grind arith);
       arming = λ is. (record { log = refl; older = refl }, not_saved);
-      own = refl;
-      fits = record { sequence = omega arith; sums = (sum_small 0 (content ∷ []), tt) };
-      current = taken_c m.kinds c b c_long b_long p.apart p.c_free p.b_free;
-      current_inside = p.c_inside;
-      only_current = λ x inside is. only x inside is;
-      none_saved = λ is. absurd (grind arith);
+      sound = sound_log;
       hidden = λ x inside is. let none = narrowed_none (f.current x) (now x) (no_current x inside is) in (none, none);
-      room = omega (arith, free_two m.kinds c b c_long b_long p.apart p.c_free p.b_free, touched_two m.kinds c b c_long b_long p.apart p.c_free p.b_free, none_touched g m.kinds f.trim k.table facts.2);
       trimmed = counted;
-      bounded = omega (arith, count_most is_free m.kinds, k.table.size);
     }
       where
         zeroth : kind_at next.kinds 0 ≡ kinds.Sector0
-        zeroth = taken_other m.kinds c b c_long b_long p.apart p.c_free p.b_free 0 (λ e. omega (arith, e, c_above)) (λ e. omega (arith, e, b_above)) ∙ k.table.zeroth
-
-        only : (x : ℕ) → x < g.blocks → kind_at next.kinds x ≡ kinds.Current → x ≡ c
-        only x inside is = elim (kinds_now x inside) [
-          | inr (inl is_c) ↦ is_c.0
-          | inl zeroth ↦ absurd (clash kinds.Sector0 zeroth.1 refl)
-          | inr (inr (inl is_b)) ↦ absurd (clash kinds.Backup is_b.1 refl)
-          | inr (inr (inr (inl free))) ↦ absurd (clash kinds.Free free.1 refl)
-          | inr (inr (inr (inr used))) ↦ absurd (clash kinds.Unchanged used.1 refl)
-        ]
-          where
-            clash : (kind : Kind) → kind_at next.kinds x ≡ kind → is_kind_current kind ≡ false → ⊥
-            clash kind same none = let e : true ≡ false = ap is_kind_current (sym is ∙ same) ∙ none in absurd (grind arith)
+        zeroth = taken_other m.kinds c b c_long b_long p.apart p.c_free p.b_free 0 (λ e. omega (arith, e, c_above)) (λ e. omega (arith, e, b_above)) ∙ k.memory.table.zeroth
 
     pub arms_stands : IsHeld g next now new_may arming
     arms_stands = record {
-      sizes = k.sizes;
+      memory = record { sizes = k.memory.sizes; table = armed_table g m c b k.memory.sizes k.memory.table free_or_not p; requests = k.memory.requests; tickets = k.memory.tickets };
       state = stays_valid g.blocks (Arms now) f k.state arms_allowed tt;
       phases = refl;
-      table = table_with g (with_kind m.kinds (one_block c) kinds.Current) (one_block b) kinds.Backup (λ e. absurd (grind arith)) (omega (arith, p.b_inside)) (inl b_above)
-          (table_with g m.kinds (one_block c) kinds.Current (λ e. absurd (grind arith)) (omega (arith, p.c_inside)) (inl c_above) k.table);
-      requests = k.requests;
-      tickets = k.tickets;
       held = λ x inside. subst (λ vs. Contains vs (now x)) (sym (flushed x inside)) (0, omega arith, refl);
       shown = show;
       kept = new_kept;
@@ -295,20 +252,24 @@ module _ (g : Geometry) where
     pub shown_0 : (content : List ℕ) (log : Generation) → IsGeneration g log → m.log ≡ Some log → WriteTried 0 content now new_now may new_may → (x : ℕ) → x < g.blocks → May (f.current x) (new_now (place_with m.log x))
     shown_0 content log is same tried x inside = subst (May (f.current x)) (sym (tried.given.others_now (place_with m.log x) (subst (λ l. place_with l x ≢ 0) (sym same) (place_not_0 log is x)))) (k.shown x inside)
 
-    -- the first log is written, or the write fails
-    pub first_written : m.phase ≡ Arming → WriteTried 0 (spelling g (log_of_memory m)) now new_now may new_may → IsHeld g (emptied m) new_now new_may f
-    first_written is tried = record {
-      sizes = k.sizes;
-      state = k.state;
-      phases = k.phases;
-      table = k.table;
-      requests = k.requests;
-      tickets = k.tickets;
-      held = held_0 _ tried;
-      shown = shown_0 _ log valid a.1 tried;
-      kept = subst₂ (λ p l. Kept g (emptied m) new_now new_may f p l) (sym is) (sym a.1) (kept_over g (emptied m) log now new_now may new_may f f Arming Arming m.phase (λ x. x) (λ b none. none) refl a.2 written);
+    -- so it stands in the phase and for the state that the write leads to, where that reads as before
+    pub written_0 : (content : List ℕ) (phase : Phase) (h : Flat) (log : Generation) → WriteTried 0 content now new_now may new_may → IsGeneration g log → m.log ≡ Some log → IsState h → h.phase ≡ phase → h.current ≡ f.current
+        → Kept g (record m { phase = phase; hand = Empty }) new_now new_may h phase (Some log) → IsHeld g (record m { phase = phase; hand = Empty }) new_now new_may h
+    written_0 content phase h log tried valid some state at current kept = record {
+      memory = k.memory;
+      state = state;
+      phases = at;
+      held = held_0 content tried;
+      shown = λ x inside. subst (λ (c : ℕ → Option (List (List ℕ))). May (c x) (new_now (place_with m.log x))) (sym current) (shown_0 content log valid some tried x inside);
+      kept = subst (λ l. Kept g (record m { phase = phase; hand = Empty }) new_now new_may h phase l) (sym some) kept;
       in_hand = tt;
     }
+
+    -- the first log is written, or the write fails
+    pub first_written : m.phase ≡ Arming → WriteTried 0 (spelling g (log_of_memory m)) now new_now may new_may → IsHeld g (emptied m) new_now new_may f
+    first_written is tried =
+        written_0 (spelling g (log_of_memory m)) m.phase f log tried valid a.1 k.state k.phases refl
+        (subst (λ p. Kept g (emptied m) new_now new_may f p (Some log)) (sym is) (kept_over g (emptied m) log now new_now may new_may f f Arming Arming m.phase (λ x. x) (λ b none. none) refl a.2 written))
       where
         a : (l : Generation) × (m.log ≡ Some l) × IsKept g (emptied m) now may f Arming l
         a = in_arming m now may f k is
@@ -320,7 +281,7 @@ module _ (g : Geometry) where
         valid = a.2.leaves.log.behind.valid
 
         spells : log_in g (spelling g (log_of_memory m)) ≡ Some log
-        spells = ap (λ l. log_in g (spelling g (log_or_blank l))) a.1 ∙ spelled g log k.sizes valid a.2.fits
+        spells = ap (λ l. log_in g (spelling g (log_or_blank l))) a.1 ∙ spelled g log k.memory.sizes valid a.2.sound.fits
 
         written : IsArming g f (device_of (emptied m) log a.2.older a.2.clean_log a.2.clean_older new_now new_may)
         written = arms_written g f (device_of (emptied m) log a.2.older a.2.clean_log a.2.clean_older now may) new_now new_may (spelling g (log_of_memory m)) spells tried.given a.2.leaves
@@ -329,18 +290,15 @@ module _ (g : Geometry) where
   pub first_spelled : (m : Memory) (now : Contents) (may : Candidates) (f : Flat) → IsHeld g (emptied m) now may f → m.phase ≡ Arming → (log : Generation) → m.log ≡ Some log → log_in g (spelling g (log_of_memory m)) ≡ Some log
   first_spelled m now may f k is log same =
       let a = in_arming m now may f k is in
-      ap (λ l. log_in g (spelling g (log_or_blank l))) a.1 ∙ spelled g a.0 k.sizes a.2.leaves.log.behind.valid a.2.fits ∙ sym a.1 ∙ same
+      ap (λ l. log_in g (spelling g (log_or_blank l))) a.1 ∙ spelled g a.0 k.memory.sizes a.2.leaves.log.behind.valid a.2.sound.fits ∙ sym a.1 ∙ same
 
   -- the first log is durable, and with it the checkpoint
   pub first_flushed : (m : Memory) (now : Contents) (may new_may : Candidates) (f : Flat) → IsHeld g (emptied m) now may f → m.phase ≡ Arming → ((log : Generation) → m.log ≡ Some log → log_in g (now 0) ≡ Some log) → IsFlushed g now new_may
       → IsHeld g (record m { phase = Checkpoint; hand = Empty; clean = true }) now new_may (after g.blocks Prepares f)
   first_flushed m now may new_may f k is given flushed = record {
-    sizes = k.sizes;
+    memory = k.memory;
     state = stays_valid g.blocks Prepares f k.state (k.phases ∙ is) tt;
     phases = refl;
-    table = k.table;
-    requests = k.requests;
-    tickets = k.tickets;
     held = λ x inside. subst (λ vs. Contains vs (now x)) (sym (flushed x inside)) (0, omega arith, refl);
     shown = k.shown;
     kept = subst (λ l. Kept g prepared now new_may (after g.blocks Prepares f) Checkpoint l) (sym a.1) kept;
@@ -362,14 +320,16 @@ module _ (g : Geometry) where
             (λ x. refl) flushed (given a.0 a.1) refl refl (record { log = refl; older = refl }) (λ x ne. refl) (λ x. refl) a.2.leaves;
         clean = λ is. record { log = refl; older = refl };
         arming = λ is. absurd (grind arith);
-        own = a.2.own;
-        fits = a.2.fits;
-        current = a.2.current;
-        current_inside = a.2.current_inside;
-        only_current = a.2.only_current;
-        none_saved = λ is. (a.2.arming refl).1;
+        sound = record {
+          own = a.2.sound.own;
+          generation = a.2.sound.generation;
+          fits = a.2.sound.fits;
+          current = a.2.sound.current;
+          only_current = a.2.sound.only_current;
+          none_saved = λ is. (a.2.arming refl).1;
+          room = a.2.sound.room;
+          bounded = a.2.sound.bounded;
+        };
         hidden = a.2.hidden;
-        room = a.2.room;
         trimmed = a.2.trimmed;
-        bounded = a.2.bounded;
       }

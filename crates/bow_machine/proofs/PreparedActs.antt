@@ -1,5 +1,6 @@
 -- Each act of a prepare, done or failed, keeps what the machine stands for.
 use Rattle.std.proofs.Common.{ℕ, ◌<◌, ◌≡◌, true, List, [], ◌∷◌, arith, refl, sym, ap, ◌∙◌, subst}
+use Rattle.bow_units.specs.declared.requests.Op.TheVariants.{Prepare}
 use Rattle.bow_units.specs.declared.sizes.Geometry.{Geometry}
 use Rattle.bow_units.specs.declared.requests.Outcome.TheVariants as outcomes
 use Rattle.bow_units.specs.declared.requests.Phase.TheVariants.{Checkpoint}
@@ -9,18 +10,19 @@ use Rattle.bow_flat.specs.Flat.{Flat, after}
 use Rattle.bow_flat.specs.Flat.Event.{Arms, Prepares}
 use Rattle.bow_guard.specs.Cuts.{Candidates}
 use Rattle.bow_queue.specs.declared.tickets.Ticket.{Ticket}
+use Rattle.bow_machine.specs.MemoryIsSound.{IsForCommand}
 use Rattle.bow_machine.specs.Memory.{Memory, Hand, Empty, Preparing, PrepareAct, ReadsBlock0, WritesCurrent, WritesBackup, FlushesCopies, WritesFirstLog, FlushesFirstLog, reserved}
 use Rattle.bow_machine.specs.Calls.{Reply, Failed, Succeeded, Gave, Does, WriteTried}
 use Rattle.bow_machine.specs.Steps.{call_of_prepare, prepare_step, armed}
 use Rattle.bow_machine.specs.MemoryIsSound.{PicksHeld}
-use Rattle.bow_machine.proofs.Held.{PrepareHeld, ForCommand, HandHeld, IsHeld}
+use Rattle.bow_machine.proofs.Held.{PrepareHeld, HandHeld, IsHeld}
 use Rattle.bow_machine.proofs.Hands.{emptied, rehanded, same_disk, Keeps, ends}
 use Rattle.bow_machine.proofs.Prepared.{above_0, free_written, arms_allowed, arms_stands, first_written, first_spelled, first_flushed}
 
 picks_handed : (g : Geometry) (m : Memory) (c b : ℕ) (hand : Hand) → PicksHeld g m c b → PicksHeld g (record m { hand = hand }) c b
 picks_handed g m c b hand p = record { phase = p.phase; apart = p.apart; c_inside = p.c_inside; b_inside = p.b_inside; c_free = p.c_free; b_free = p.b_free }
 
-module _ (g : Geometry) (m : Memory) (now new_now : Contents) (may new_may : Candidates) (f : Flat) (t : Ticket) (c b : ℕ) (waits : ForCommand m.requests t) (e : IsHeld g (emptied m) now may f) where
+module _ (g : Geometry) (m : Memory) (now new_now : Contents) (may new_may : Candidates) (f : Flat) (t : Ticket) (c b : ℕ) (waits : IsForCommand m.requests t Prepare) (e : IsHeld g (emptied m) now may f) where
   -- an act that failed before arming, or left the disk as it was
   failed : IsHeld g (emptied m) new_now new_may f → Keeps g new_now new_may f (prepare_step now m t c b ReadsBlock0 Failed)
   failed k = ends g m new_now new_may f t (λ r. outcomes.DiskFault 0) [] waits tt k

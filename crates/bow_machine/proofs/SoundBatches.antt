@@ -34,12 +34,13 @@ use Rattle.bow_machine.specs.Ties.{copies_in, LogGoesOn, IsTouchedStill}
 use Rattle.bow_copy.proofs.ActsInOrder.{length-acts}
 use Rattle.bow_machine.proofs.Tables.{table_unsaved, count_unsaved, kind_unsaved}
 use Rattle.bow_machine.proofs.Mapped.{empty_not_in_hand}
-use Rattle.bow_machine.proofs.BatchLogs.{not_unsaved}
+use Rattle.bow_machine.proofs.SoundLogs.{not_unsaved}
 use Rattle.bow_machine.proofs.BatchStands.{holds_one}
 use Rattle.bow_machine.proofs.RequestLists.{each_append}
 use Rattle.bow_machine.proofs.BatchActs.{lead, running, not_tried, tried, lead_done, lead_failed, log_act, log_done, log_failed, last_act, last_done, last_failed, lead_copy, copy_reads, copy_writes, copy_flush}
 use Rattle.bow_machine.proofs.SoundLists.{few_without, waiting_without, rising_without}
-use Rattle.bow_machine.proofs.SoundHands.{for_write_in, sound_requests, waits_without}
+use Rattle.bow_machine.proofs.SoundHands.{for_write_in, sound_requests}
+use Rattle.bow_machine.proofs.Mapped.{waits_without}
 use Rattle.bow_machine.proofs.SoundTasks.{batch_in_hand}
 use Rattle.bow_machine.proofs.SoundLogs.{spelling_length, respared, spare_table, InSaved, spare_log, LogChange, rewrite_change, link_change, copy_change, move_change, clean_log}
 
@@ -309,12 +310,13 @@ module _ (g : Geometry) (m : Memory) (b : Batch) (s : MemoryIsSound g m) (i : In
   more_done : length (acts job) ≡ lead job + 2
   more_done = length-acts job
 
-  going : done < lead job → (reply : Reply) → CanHave g the_call reply → (ok : reply ≢ Failed) → BatchGoes g m b (batch_step g m b reply)
-  going below Failed can ok = absurd (ok refl)
-  going below Succeeded can ok = record {
-    left = record m { hand = Batching (with_slots b.slots) };
-    is = ap (λ a. moved (batch_after m b Succeeded a) []) (after_is true ∙ lead_done job done below);
-    sound = from the_call (goes_on below) can;
+  -- an act before the log, with this in the buffer after it
+  went : done < lead job → (reply : Reply) (slots : List (List ℕ)) → batch_step g m b reply ≡ moved (record m { hand = Batching (with_slots slots) }) [] → MemoryIsSound g (record m { hand = Batching (with_slots slots) })
+      → BatchGoes g m b (batch_step g m b reply)
+  went below reply slots is sound = record {
+    left = record m { hand = Batching (with_slots slots) };
+    is = is;
+    sound = sound;
     requests = refl;
     free = refl;
     plain = refl;
@@ -325,25 +327,16 @@ module _ (g : Geometry) (m : Memory) (b : Batch) (s : MemoryIsSound g m) (i : In
     written = λ old new was is. inl (same_is m.log old new was is);
     stays = λ x is. inl refl;
   }
+
+  going : done < lead job → (reply : Reply) → CanHave g the_call reply → (ok : reply ≢ Failed) → BatchGoes g m b (batch_step g m b reply)
+  going below Failed can ok = absurd (ok refl)
+  going below Succeeded can ok = went below Succeeded b.slots (ap (λ a. moved (batch_after m b Succeeded a) []) (after_is true ∙ lead_done job done below)) (from the_call (goes_on below) can)
     where
       from : (call : Call) → GoesOn g m.kinds m.clean i.log job done b.slots call → CanHave g call Succeeded → MemoryIsSound g (record m { hand = Batching (with_slots b.slots) })
       from (ReadCall x) goes can = absurd can
       from (WriteCall x v) goes can = going_sound below b.slots i.held.blocks goes.1
       from FlushCall goes can = going_sound below b.slots i.held.blocks goes
-  going below (Gave v) can ok = record {
-    left = record m { hand = Batching (with_slots (b.slots ++ v ∷ [])) };
-    is = ap (λ a. moved (batch_after m b (Gave v) a) []) (after_is true ∙ lead_done job done below);
-    sound = from the_call (goes_on below) can;
-    requests = refl;
-    free = refl;
-    plain = refl;
-    acts = omega (arith, more_done, below);
-    saved = λ x is. inl is;
-    touched = λ x is. inl is;
-    goes_on = same_log g m.kinds m.kinds m.log;
-    written = λ old new was is. inl (same_is m.log old new was is);
-    stays = λ x is. inl refl;
-  }
+  going below (Gave v) can ok = went below (Gave v) (b.slots ++ v ∷ []) (ap (λ a. moved (batch_after m b (Gave v) a) []) (after_is true ∙ lead_done job done below)) (from the_call (goes_on below) can)
     where
       from : (call : Call) → GoesOn g m.kinds m.clean i.log job done b.slots call → CanHave g call (Gave v) → MemoryIsSound g (record m { hand = Batching (with_slots (b.slots ++ v ∷ [])) })
       from (ReadCall x) goes can = going_sound below (b.slots ++ v ∷ []) (each_append (λ u. length u ≡ g.block_size) b.slots (v ∷ []) i.held.blocks (can, tt)) (goes.1 v)

@@ -1,40 +1,57 @@
 -- Each act of a prepare or a commit, done or failed, keeps memory sound, and leaves less.
-use Rattle.std.proofs.Common.{ℕ, zero, suc, ◌+◌, ◌-◌, ◌<◌, ◌≡◌, ◌≢◌, ◌⊎◌, Bool, true, false, cond, List, [], ◌∷◌, length, Option, Some, None, arith, refl, sym, ap, ◌∙◌, subst, subst₂, inl, inr}
+use Rattle.std.proofs.Common.{ℕ, ◌-◌, ◌<◌, ◌≡◌, ◌≢◌, ◌⊎◌, Bool, true, false, cond, List, [], ◌∷◌, length, Option, Some, None, arith, refl, sym, ap, ◌∙◌, subst, subst₂, inl, inr}
 use Rattle.std.proofs.lemmas.Bool.{cases_eq, false≢true}
 use Rattle.bow_units.specs.declared.sizes.Geometry.{Geometry}
 use Rattle.bow_units.specs.declared.requests.Op.TheVariants.{Prepare, Commit}
+use Rattle.bow_units.specs.declared.requests.Phase.{Phase}
 use Rattle.bow_units.specs.declared.requests.Phase.TheVariants.{Committed, Trim, Arming, Checkpoint, Deciding}
 use Rattle.bow_units.specs.declared.requests.Outcome.{Outcome}
 use Rattle.bow_units.specs.declared.requests.Outcome.TheVariants as outcomes
 use Rattle.bow_units.specs.declared.statuses.Kind.{Kind}
 use Rattle.bow_units.specs.declared.statuses.Kind.TheVariants as kinds
 use Rattle.bow_log.specs.Generations.{Generation}
-use Rattle.bow_log.proofs.Clean.{sized}
 use Rattle.bow_chain.specs.Contents.{Contents}
 use Rattle.bow_flat.specs.Flat.{Event}
 use Rattle.bow_flat.specs.Flat.Event.{Arms, Prepares}
 use Rattle.bow_queue.specs.declared.tickets.Ticket.{Ticket}
-use Rattle.bow_ranges.specs.Kinds.{kind_at, with_kind, is_free, count_of}
+use Rattle.bow_ranges.specs.Kinds.{kind_at}
 use Rattle.bow_machine.specs.Requests.{Request, request_of}
 use Rattle.bow_machine.specs.Memory.{Batching, Memory, Batch, Hand, Empty, Preparing, Committing, PrepareAct, ReadsBlock0, WritesCurrent, WritesBackup, FlushesCopies, WritesFirstLog, FlushesFirstLog, CommitAct, FlushesAll, ReadsCurrent, WritesBlock0, FlushesDecision, has_command, reserved}
 use Rattle.bow_machine.specs.Calls.{Reply, Failed, Succeeded, Gave}
-use Rattle.bow_machine.specs.Steps.{Step, moved, answered_for, one_block, first_log, armed, released, call_of_prepare, call_of_commit, commit_failed, deciding_events, committing_events, prepare_step, commit_step}
+use Rattle.bow_machine.specs.Steps.{Step, moved, answered_for, armed, released, call_of_prepare, call_of_commit, commit_failed, deciding_events, committing_events, prepare_step, commit_step}
 use Rattle.bow_machine.specs.MemoryIsSound.{is_touched, PicksHeld, FoundIn}
-use Rattle.bow_machine.specs.MemoryIsSound.{LogIsSound, LogIsHeld, PrepareIsSound, CommitIsSound, IsForCommand, HandIsSound, MemoryIsSound}
+use Rattle.bow_machine.specs.MemoryIsSound.{LogIsHeld, PrepareIsSound, CommitIsSound, IsForCommand, HandIsSound, MemoryIsSound}
 use Rattle.bow_machine.specs.MemoryLaws.{CanHave}
 use Rattle.bow_machine.specs.Ends.{left_in, acts_left}
 use Rattle.bow_machine.proofs.Less.{IsLess, fewer_acts}
-use Rattle.bow_machine.proofs.Counts.{count_none, count_most, two_taken, free_two, touched_two, taken_c, taken_b, taken_other}
-use Rattle.bow_machine.proofs.Spelled.{sum_small}
+use Rattle.bow_machine.proofs.Counts.{none_counted, two_taken, taken_c, taken_b, taken_other}
 use Rattle.bow_machine.proofs.Tables.{kind_in, table_with}
-use Rattle.bow_machine.proofs.BatchStands.{above_0}
 use Rattle.bow_machine.specs.Ties.{IsNextOf, IsLeftOf, LogGoesOn, IsTouchedStill}
-use Rattle.bow_machine.proofs.SoundLists.{count_cons}
+use Rattle.bow_machine.proofs.FirstLogs.{free, untouched, still_untouched, armed_log, armed_table}
 use Rattle.bow_machine.proofs.SoundBatches.{same_log, same_is, WritesNow}
 
 -- the batch in hand writes this log at its next act
 abbrev pub WritesLog : Memory → Generation → Generation → Type 0
 WritesLog m old new = (b : Batch) × (m.hand ≡ Batching b) × WritesNow b old new
+
+-- What an act may leave of the kinds and the log, in this phase: what it saves and touches are next blocks of its write;
+-- the log goes on, and is another only where the batch in hand writes it; what is touched stays so.
+pub record LeavesSo (g : Geometry) (m : Memory) (phase : Phase) (table : List Kind) (log : Option Generation) : Type 0 where
+  pub saved : (x : ℕ) → x < g.blocks → kind_at table x ≡ kinds.Saved → (kind_at m.kinds x ≡ kinds.Saved) ⊎ IsNextOf g m x
+  pub touched : (x : ℕ) → x < g.blocks → is_touched (kind_at table x) ≡ true → (is_touched (kind_at m.kinds x) ≡ true) ⊎ IsLeftOf g m x
+  pub goes_on : (old new : Generation) → m.log ≡ Some old → log ≡ Some new → LogGoesOn g m.kinds table old new
+  pub written : (old new : Generation) → m.log ≡ Some old → log ≡ Some new → (new ≡ old) ⊎ WritesLog m old new
+  pub stays : phase ≢ Committed → (x : ℕ) → x < g.blocks → is_touched (kind_at m.kinds x) ≡ true → IsTouchedStill (kind_at m.kinds x) (kind_at table x)
+
+-- the kinds and the log are left as they are
+pub leaves_same : (g : Geometry) (m : Memory) (phase : Phase) → LeavesSo g m phase m.kinds m.log
+leaves_same g m phase = record {
+  saved = λ x on is. inl is;
+  touched = λ x on is. inl is;
+  goes_on = same_log g m.kinds m.kinds m.log;
+  written = λ old new was is. inl (same_is m.log old new was is);
+  stays = λ going x on is. inl refl;
+}
 
 -- An act ends what was in hand: with nothing in hand, the request of this ticket is answered.
 pub record ActEnds (g : Geometry) (m : Memory) (t : Ticket) (step : Step) : Type 0 where
@@ -45,11 +62,7 @@ pub record ActEnds (g : Geometry) (m : Memory) (t : Ticket) (step : Step) : Type
   pub sound : MemoryIsSound g left
   pub empty : left.hand ≡ Empty
   pub requests : left.requests ≡ m.requests
-  pub saved : (x : ℕ) → x < g.blocks → kind_at left.kinds x ≡ kinds.Saved → (kind_at m.kinds x ≡ kinds.Saved) ⊎ IsNextOf g m x
-  pub touched : (x : ℕ) → x < g.blocks → is_touched (kind_at left.kinds x) ≡ true → (is_touched (kind_at m.kinds x) ≡ true) ⊎ IsLeftOf g m x
-  pub goes_on : (old new : Generation) → m.log ≡ Some old → left.log ≡ Some new → LogGoesOn g m.kinds left.kinds old new
-  pub written : (old new : Generation) → m.log ≡ Some old → left.log ≡ Some new → (new ≡ old) ⊎ WritesLog m old new
-  pub stays : left.phase ≢ Committed → (x : ℕ) → x < g.blocks → is_touched (kind_at m.kinds x) ≡ true → IsTouchedStill (kind_at m.kinds x) (kind_at left.kinds x)
+  pub leaves : LeavesSo g m left.phase left.kinds left.log
 
 -- An act goes on: less is left.
 pub record ActGoes (g : Geometry) (m : Memory) (step : Step) : Type 0 where
@@ -58,11 +71,7 @@ pub record ActGoes (g : Geometry) (m : Memory) (step : Step) : Type 0 where
   pub is : step ≡ moved left happens
   pub sound : MemoryIsSound g left
   pub less : IsLess (left_in left) (left_in m)
-  pub saved : (x : ℕ) → x < g.blocks → kind_at left.kinds x ≡ kinds.Saved → (kind_at m.kinds x ≡ kinds.Saved) ⊎ IsNextOf g m x
-  pub touched : (x : ℕ) → x < g.blocks → is_touched (kind_at left.kinds x) ≡ true → (is_touched (kind_at m.kinds x) ≡ true) ⊎ IsLeftOf g m x
-  pub goes_on : (old new : Generation) → m.log ≡ Some old → left.log ≡ Some new → LogGoesOn g m.kinds left.kinds old new
-  pub written : (old new : Generation) → m.log ≡ Some old → left.log ≡ Some new → (new ≡ old) ⊎ WritesLog m old new
-  pub stays : left.phase ≢ Committed → (x : ℕ) → x < g.blocks → is_touched (kind_at m.kinds x) ≡ true → IsTouchedStill (kind_at m.kinds x) (kind_at left.kinds x)
+  pub leaves : LeavesSo g m left.phase left.kinds left.log
 
 -- The call failed: the request is answered with a fault.
 pub record ActFails (g : Geometry) (m : Memory) (t : Ticket) (step : Step) : Type 0 where
@@ -78,16 +87,6 @@ abbrev pub ActIsDone : Geometry → Memory → Ticket → Step → Type 0
 ActIsDone g m t step = ActAnswers g m t step ⊎ ActGoes g m step
 
 -- ----------------------------------------------------------------------------------------------------------------
-
--- where none is counted, none is there
-pub none_counted : (sort : Kind → Bool) (table : List Kind) (b : ℕ) → count_of sort table ≡ 0 → b < length table → sort (kind_at table b) ≡ false
-none_counted sort [] b none below = absurd (omega arith)
-none_counted sort (k ∷ ks) zero none below = here (sort k) (sym (count_cons sort k ks) ∙ none)
-  where
-    here : (t : Bool) → cond t 1 0 + count_of sort ks ≡ 0 → t ≡ false
-    here true some = absurd (omega arith)
-    here false some = refl
-none_counted sort (k ∷ ks) (suc b) none below = none_counted sort ks b (let all = count_cons sort k ks in omega (arith, all, none)) (omega arith)
 
 -- with another hand that has reserved as many, and nothing else
 pub rehanded : (g : Geometry) (m : Memory) (hand : Hand) → (reserved hand).count ≡ (reserved m.hand).count → HandIsSound g (record m { hand = hand }) hand m.log → MemoryIsSound g m → MemoryIsSound g (record m { hand = hand })
@@ -115,7 +114,7 @@ module _ (g : Geometry) (m : Memory) (t : Ticket) (c b : ℕ) (s : MemoryIsSound
 
     pub prepare_fails : (now : Contents) → ActFails g m t (prepare_step now m t c b act Failed)
     prepare_fails now = record {
-      ends = record { left = record m { hand = Empty }; outcome = λ r. outcomes.DiskFault 0; happens = λ r. []; is = refl; sound = rehanded g m Empty (sym none) tt s; empty = refl; requests = refl; saved = λ x on is. inl is; touched = λ x on is. inl is; goes_on = same_log g m.kinds m.kinds m.log; written = λ old new was is. inl (same_is m.log old new was is); stays = λ going x on is. inl refl };
+      ends = record { left = record m { hand = Empty }; outcome = λ r. outcomes.DiskFault 0; happens = λ r. []; is = refl; sound = rehanded g m Empty (sym none) tt s; empty = refl; requests = refl; leaves = leaves_same g m m.phase };
       fault = λ r found zeroth. ap outcomes.DiskFault (sym zeroth);
     }
 
@@ -128,11 +127,7 @@ module _ (g : Geometry) (m : Memory) (t : Ticket) (c b : ℕ) (s : MemoryIsSound
       is = same;
       sound = rehanded g m (Preparing t c b next) (sym none) (held, prepare_held.1) s;
       less = fewer_acts m (record m { hand = Preparing t c b next }) (Preparing t c b act) is refl refl refl acts;
-      saved = λ x on is. inl is;
-      touched = λ x on is. inl is;
-      goes_on = same_log g m.kinds m.kinds m.log;
-      written = λ old new was is. inl (same_is m.log old new was is);
-      stays = λ going x on is. inl refl;
+      leaves = leaves_same g m m.phase;
     }
 
   picks_again : (act : PrepareAct) → PicksHeld g m c b → PicksHeld g (record m { hand = Preparing t c b act }) c b
@@ -159,69 +154,14 @@ module _ (g : Geometry) (m : Memory) (t : Ticket) (c b : ℕ) (s : MemoryIsSound
     b_long : b < length m.kinds
     b_long = omega (arith, p.b_inside, s.table.size)
 
-    c_above : 0 < c
-    c_above = above_0 m.kinds c s.table.zeroth (λ e. let clash : kinds.Free ≡ kinds.Sector0 = sym p.c_free ∙ e in absurd (grind arith))
-
-    b_above : 0 < b
-    b_above = above_0 m.kinds b s.table.zeroth (λ e. let clash : kinds.Free ≡ kinds.Sector0 = sym p.b_free ∙ e in absurd (grind arith))
-
-    free : count_of is_free new + 2 ≡ count_of is_free m.kinds
-    free = free_two m.kinds c b c_long b_long p.apart p.c_free p.b_free
-
-    untouched : count_of is_touched m.kinds ≡ 0
-    untouched = count_none is_touched m.kinds each
-      where
-        each : (i : ℕ) → i < length m.kinds → is_touched (kind_at m.kinds i) ≡ false
-        each zero below = ap is_touched s.table.zeroth
-        each (suc i) below = elim (trimmed (suc i) (omega arith) (omega (arith, below, s.table.size))) [ inl free ↦ ap is_touched free | inr used ↦ ap is_touched used ]
-
-    still_untouched : count_of is_touched new ≡ 0
-    still_untouched = touched_two m.kinds c b c_long b_long p.apart p.c_free p.b_free ∙ untouched
-
-    only : (x : ℕ) → x < g.blocks → kind_at new x ≡ kinds.Current → x ≡ c
-    only x on current = elim (cases_eq x c) [
-      | inl here ↦ here
-      | inr not_c ↦ elim (cases_eq x b) [
-        | inl at_b ↦ absurd (let clash : kinds.Backup ≡ kinds.Current = sym (taken_b m.kinds c b c_long b_long p.apart p.c_free p.b_free) ∙ ap (kind_at new) (sym at_b) ∙ current in grind arith)
-        | inr not_b ↦
-            let was : kind_at m.kinds x ≡ kinds.Current = sym (taken_other m.kinds c b c_long b_long p.apart p.c_free p.b_free x not_c not_b) ∙ current in
-            elim (cases_eq x 0) [
-              | inl zeroth ↦ absurd (let clash : kinds.Sector0 ≡ kinds.Current = sym s.table.zeroth ∙ ap (kind_at m.kinds) (sym zeroth) ∙ was in grind arith)
-              | inr above ↦ elim (trimmed x (omega (arith, above)) on) [
-                | inl free ↦ absurd (let clash : kinds.Free ≡ kinds.Current = sym free ∙ was in grind arith)
-                | inr used ↦ absurd (let clash : kinds.Unchanged ≡ kinds.Current = sym used ∙ was in grind arith)
-              ]
-            ]
-      ]
-    ]
-
-    armed_log : LogIsSound g new false (count_of is_free m.kinds) 0 (first_log c b v)
-    armed_log = record {
-      own = refl;
-      generation = record {
-        few = omega (arith, (sized g.block_size s.sizes.size).least);
-        current_not_0 = c_above;
-        current_inside = p.c_inside;
-        each = (record { some = omega arith; source_inside = omega (arith, s.sizes.enough); dest_inside = omega (arith, p.b_inside); apart = inl (omega (arith, b_above)); dest_not_0 = b_above }, tt);
-        start = (refl, refl, tt);
-      };
-      fits = record { sequence = omega arith; sums = (sum_small 0 (v ∷ []), tt) };
-      current = taken_c m.kinds c b c_long b_long p.apart p.c_free p.b_free;
-      only_current = only;
-      none_saved = λ clean. absurd (grind arith);
-      room = omega (arith, free, still_untouched);
-      bounded = omega (arith, count_most is_free m.kinds, s.table.size);
-    }
-
     armed_sound : MemoryIsSound g (armed m t c b v)
     armed_sound = record {
       sizes = s.sizes;
-      table = table_with g (with_kind m.kinds (one_block c) kinds.Current) (one_block b) kinds.Backup (λ e. absurd (grind arith)) (omega (arith, p.b_inside)) (inl b_above)
-          (table_with g m.kinds (one_block c) kinds.Current (λ e. absurd (grind arith)) (omega (arith, p.c_inside)) (inl c_above) s.table);
+      table = armed_table g m c b s.sizes s.table trimmed p;
       few = s.few;
       requests = s.requests;
       rising = s.rising;
-      log = (armed_log, refl, still_untouched);
+      log = (armed_log g m c b s.sizes s.table trimmed p v, refl, still_untouched g m c b s.sizes s.table trimmed p);
       in_hand = (refl, (prepare_held (FlushesCopies v) is).1);
     }
 
@@ -234,24 +174,26 @@ module _ (g : Geometry) (m : Memory) (t : Ticket) (c b : ℕ) (s : MemoryIsSound
       less =
           let one : Hand → ℕ = λ h. cond (has_command h) 1 0 in
           let mine = ap one is in
-          inr (refl, inr (omega (arith, mine), inl (omega (arith, free))));
-      saved = λ x on is. elim (cases_eq x c) [
-        | inl at_c ↦ absurd (let clash : kinds.Current ≡ kinds.Saved = sym (taken_c m.kinds c b c_long b_long p.apart p.c_free p.b_free) ∙ ap (kind_at new) (sym at_c) ∙ is in grind arith)
-        | inr not_c ↦ elim (cases_eq x b) [
-          | inl at_b ↦ absurd (let clash : kinds.Backup ≡ kinds.Saved = sym (taken_b m.kinds c b c_long b_long p.apart p.c_free p.b_free) ∙ ap (kind_at new) (sym at_b) ∙ is in grind arith)
-          | inr not_b ↦ inl (sym (taken_other m.kinds c b c_long b_long p.apart p.c_free p.b_free x not_c not_b) ∙ is)
-        ]
-      ];
-      touched = λ x on is. elim (cases_eq x c) [
-        | inl at_c ↦ absurd (false≢true (ap is_touched (sym (taken_c m.kinds c b c_long b_long p.apart p.c_free p.b_free)) ∙ ap (λ y. is_touched (kind_at new y)) (sym at_c) ∙ is))
-        | inr not_c ↦ elim (cases_eq x b) [
-          | inl at_b ↦ absurd (false≢true (ap is_touched (sym (taken_b m.kinds c b c_long b_long p.apart p.c_free p.b_free)) ∙ ap (λ y. is_touched (kind_at new y)) (sym at_b) ∙ is))
-          | inr not_b ↦ inl (ap is_touched (sym (taken_other m.kinds c b c_long b_long p.apart p.c_free p.b_free x not_c not_b)) ∙ is)
-        ]
-      ];
-      goes_on = λ old new was is. absurd (subst₂ (λ q l. LogIsHeld g m.kinds m.clean m.trimmed (reserved m.hand).count q l) p.phase was s.log);
-      written = λ old new was is. absurd (subst₂ (λ q l. LogIsHeld g m.kinds m.clean m.trimmed (reserved m.hand).count q l) p.phase was s.log);
-      stays = λ going x on is. absurd (false≢true (sym (none_counted is_touched m.kinds x untouched (omega (arith, on, s.table.size))) ∙ is));
+          inr (refl, inr (omega (arith, mine), inl (omega (arith, free g m c b s.sizes s.table trimmed p))));
+      leaves = record {
+        saved = λ x on is. elim (cases_eq x c) [
+          | inl at_c ↦ absurd (let clash : kinds.Current ≡ kinds.Saved = sym (taken_c m.kinds c b c_long b_long p.apart p.c_free p.b_free) ∙ ap (kind_at new) (sym at_c) ∙ is in grind arith)
+          | inr not_c ↦ elim (cases_eq x b) [
+            | inl at_b ↦ absurd (let clash : kinds.Backup ≡ kinds.Saved = sym (taken_b m.kinds c b c_long b_long p.apart p.c_free p.b_free) ∙ ap (kind_at new) (sym at_b) ∙ is in grind arith)
+            | inr not_b ↦ inl (sym (taken_other m.kinds c b c_long b_long p.apart p.c_free p.b_free x not_c not_b) ∙ is)
+          ]
+        ];
+        touched = λ x on is. elim (cases_eq x c) [
+          | inl at_c ↦ absurd (false≢true (ap is_touched (sym (taken_c m.kinds c b c_long b_long p.apart p.c_free p.b_free)) ∙ ap (λ y. is_touched (kind_at new y)) (sym at_c) ∙ is))
+          | inr not_c ↦ elim (cases_eq x b) [
+            | inl at_b ↦ absurd (false≢true (ap is_touched (sym (taken_b m.kinds c b c_long b_long p.apart p.c_free p.b_free)) ∙ ap (λ y. is_touched (kind_at new y)) (sym at_b) ∙ is))
+            | inr not_b ↦ inl (ap is_touched (sym (taken_other m.kinds c b c_long b_long p.apart p.c_free p.b_free x not_c not_b)) ∙ is)
+          ]
+        ];
+        goes_on = λ old new was is. absurd (subst₂ (λ q l. LogIsHeld g m.kinds m.clean m.trimmed (reserved m.hand).count q l) p.phase was s.log);
+        written = λ old new was is. absurd (subst₂ (λ q l. LogIsHeld g m.kinds m.clean m.trimmed (reserved m.hand).count q l) p.phase was s.log);
+        stays = λ going x on is. absurd (false≢true (sym (none_counted is_touched m.kinds x (untouched g m c b s.sizes s.table trimmed p) (omega (arith, on, s.table.size))) ∙ is));
+      };
     }
 
   -- the checkpoint begins
@@ -273,11 +215,7 @@ module _ (g : Geometry) (m : Memory) (t : Ticket) (c b : ℕ) (s : MemoryIsSound
       };
       empty = refl;
       requests = refl;
-      saved = λ x on is. inl is;
-      touched = λ x on is. inl is;
-      goes_on = same_log g m.kinds m.kinds m.log;
-      written = λ old new was is. inl (same_is m.log old new was is);
-      stays = λ going x on is. inl refl;
+      leaves = leaves_same g m Checkpoint;
     };
     done = λ r. refl;
   }
@@ -333,11 +271,7 @@ module _ (g : Geometry) (m : Memory) (t : Ticket) (again : Bool) (s : MemoryIsSo
       is = same;
       sound = rehanded g m (Committing t again next) (sym commit_none) (held, commit_held.1) s;
       less = fewer_acts m (record m { hand = Committing t again next }) (Committing t again act) is refl refl refl acts;
-      saved = λ x on is. inl is;
-      touched = λ x on is. inl is;
-      goes_on = same_log g m.kinds m.kinds m.log;
-      written = λ old new was is. inl (same_is m.log old new was is);
-      stays = λ going x on is. inl refl;
+      leaves = leaves_same g m m.phase;
     }
 
   found_again : (hand : Hand) (found : Bool) → FoundIn m found → FoundIn (record m { hand = hand }) found
@@ -367,7 +301,7 @@ module _ (g : Geometry) (m : Memory) (t : Ticket) (again : Bool) (s : MemoryIsSo
 
   pub commit_fails : (act : CommitAct) (is : m.hand ≡ Committing t again act) → ActFails g m t (commit_step m t again act Failed)
   commit_fails act is = record {
-    ends = record { left = commit_failed m act; outcome = λ r. outcomes.DiskFault 0; happens = λ r. deciding_events again act; is = refl; sound = left_sound act is; empty = left_empty act; requests = left_requests act; saved = λ x on is. inl (left_saved act x is); touched = λ x on is. inl (left_touched act x is); goes_on = left_goes_on act; written = left_written act; stays = λ going x on is. left_stays act x is };
+    ends = record { left = commit_failed m act; outcome = λ r. outcomes.DiskFault 0; happens = λ r. deciding_events again act; is = refl; sound = left_sound act is; empty = left_empty act; requests = left_requests act; leaves = left_same act };
     fault = λ r found zeroth. ap outcomes.DiskFault (sym zeroth);
   }
     where
@@ -389,35 +323,11 @@ module _ (g : Geometry) (m : Memory) (t : Ticket) (again : Bool) (s : MemoryIsSo
       left_requests (WritesBlock0 v) = refl
       left_requests FlushesDecision = refl
 
-      left_saved : (act : CommitAct) (x : ℕ) → kind_at (commit_failed m act).kinds x ≡ kinds.Saved → kind_at m.kinds x ≡ kinds.Saved
-      left_saved FlushesAll x is = is
-      left_saved ReadsCurrent x is = is
-      left_saved (WritesBlock0 v) x is = is
-      left_saved FlushesDecision x is = is
-
-      left_touched : (act : CommitAct) (x : ℕ) → is_touched (kind_at (commit_failed m act).kinds x) ≡ true → is_touched (kind_at m.kinds x) ≡ true
-      left_touched FlushesAll x is = is
-      left_touched ReadsCurrent x is = is
-      left_touched (WritesBlock0 v) x is = is
-      left_touched FlushesDecision x is = is
-
-      left_written : (act : CommitAct) (old new : Generation) → m.log ≡ Some old → (commit_failed m act).log ≡ Some new → (new ≡ old) ⊎ WritesLog m old new
-      left_written FlushesAll old new was is = inl (same_is m.log old new was is)
-      left_written ReadsCurrent old new was is = inl (same_is m.log old new was is)
-      left_written (WritesBlock0 v) old new was is = inl (same_is m.log old new was is)
-      left_written FlushesDecision old new was is = inl (same_is m.log old new was is)
-
-      left_stays : (act : CommitAct) (x : ℕ) → is_touched (kind_at m.kinds x) ≡ true → IsTouchedStill (kind_at m.kinds x) (kind_at (commit_failed m act).kinds x)
-      left_stays FlushesAll x is = inl refl
-      left_stays ReadsCurrent x is = inl refl
-      left_stays (WritesBlock0 v) x is = inl refl
-      left_stays FlushesDecision x is = inl refl
-
-      left_goes_on : (act : CommitAct) (old new : Generation) → m.log ≡ Some old → (commit_failed m act).log ≡ Some new → LogGoesOn g m.kinds (commit_failed m act).kinds old new
-      left_goes_on FlushesAll = same_log g m.kinds m.kinds m.log
-      left_goes_on ReadsCurrent = same_log g m.kinds m.kinds m.log
-      left_goes_on (WritesBlock0 v) = same_log g m.kinds m.kinds m.log
-      left_goes_on FlushesDecision = same_log g m.kinds m.kinds m.log
+      left_same : (act : CommitAct) → LeavesSo g m (commit_failed m act).phase (commit_failed m act).kinds (commit_failed m act).log
+      left_same FlushesAll = leaves_same g m m.phase
+      left_same ReadsCurrent = leaves_same g m m.phase
+      left_same (WritesBlock0 v) = leaves_same g m Deciding
+      left_same FlushesDecision = leaves_same g m m.phase
 
   released_sound : MemoryIsSound g (released m)
   released_sound = record {
@@ -461,15 +371,11 @@ module _ (g : Geometry) (m : Memory) (t : Ticket) (again : Bool) (s : MemoryIsSo
     is = refl;
     sound = deciding_sound v is (Committing t again FlushesDecision) refl (refl, (commit_held (WritesBlock0 v) is).1);
     less = fewer_acts m (record m { phase = Deciding; hand = Committing t again FlushesDecision }) (Committing t again (WritesBlock0 v)) is refl refl refl (omega arith);
-    saved = λ x on is. inl is;
-    touched = λ x on is. inl is;
-    goes_on = same_log g m.kinds m.kinds m.log;
-    written = λ old new was is. inl (same_is m.log old new was is);
-    stays = λ going x on is. inl refl;
+    leaves = leaves_same g m Deciding;
   })
   commit_done (WritesBlock0 v) is (Gave w) can ok = absurd can
   commit_done FlushesDecision is Succeeded can ok = inl (record {
-    ends = record { left = released m; outcome = λ r. outcomes.Done; happens = λ r. committing_events again; is = refl; sound = released_sound; empty = refl; requests = refl; saved = λ x on is. absurd (false≢true (sym (released_untouched x on) ∙ ap is_touched is)); touched = λ x on is. absurd (false≢true (sym (released_untouched x on) ∙ is)); goes_on = λ old new was is. absurd (grind arith); written = λ old new was is. absurd (grind arith); stays = λ going x on is. absurd (going refl) };
+    ends = record { left = released m; outcome = λ r. outcomes.Done; happens = λ r. committing_events again; is = refl; sound = released_sound; empty = refl; requests = refl; leaves = record { saved = λ x on is. absurd (false≢true (sym (released_untouched x on) ∙ ap is_touched is)); touched = λ x on is. absurd (false≢true (sym (released_untouched x on) ∙ is)); goes_on = λ old new was is. absurd (grind arith); written = λ old new was is. absurd (grind arith); stays = λ going x on is. absurd (going refl) } };
     done = λ r. refl;
   })
   commit_done FlushesDecision is (Gave w) can ok = absurd can

@@ -1,16 +1,16 @@
 -- The log in memory and the kinds: what a batch picks and gives up, what each log write changes, and what the last flush cleans.
-use Rattle.std.proofs.Common.{ℕ, ◌+◌, ◌-◌, ◌*◌, ◌^◌, ◌<◌, ◌≤◌, ◌≡◌, ◌≢◌, ◌⊎◌, Bool, true, false, cond, List, [], ◌∷◌, length, map, arith, refl, sym, ap, ◌∙◌, subst, inl, inr, length-append}
-use Rattle.std.proofs.lemmas.Bool.{cases_lt, false≢true}
+use Rattle.std.proofs.Common.{ℕ, zero, suc, ◌+◌, ◌-◌, ◌*◌, ◌^◌, ◌<◌, ◌≤◌, ◌≡◌, ◌≢◌, ◌⊎◌, Bool, true, false, cond, List, [], ◌∷◌, ◌++◌, length, map, arith, refl, sym, ap, ◌∙◌, subst, inl, inr, length-append}
+use Rattle.std.proofs.lemmas.Bool.{cases_eq, cases_lt, false≢true}
 use Rattle.std.proofs.lemmas.List.{length-map, length-replicate}
 use Rattle.std.specs.Prelude.{flat_map}
 use Rattle.bow_units.specs.declared.sizes.Geometry.{Geometry}
 use Rattle.bow_units.specs.declared.sizes.Extent.{Extent}
 use Rattle.bow_units.specs.Sizes.{IsValid}
 use Rattle.bow_units.specs.declared.statuses.Kind.{Kind}
-use Rattle.bow_units.specs.declared.statuses.Kind.TheVariants.{Sector0, Current, Unchanged, Backup as BackupKind, Saved}
+use Rattle.bow_units.specs.declared.statuses.Kind.TheVariants.{Sector0, Current, Unchanged, Free, Changed, Backup as BackupKind, Saved}
 use Rattle.bow_log.specs.declared.entries.Entry.{Entry}
 use Rattle.bow_log.specs.Spelling.{Fields, header, entry_text, spell}
-use Rattle.bow_log.specs.Generations.{Backup, Generation, IsBackup, room, entry_of, fields_of}
+use Rattle.bow_log.specs.Generations.{Backup, Generation, IsBackup, StartsWith0, room, entry_of, fields_of}
 use Rattle.bow_log.proofs.Clean.{room_fits}
 use Rattle.bow_copy.specs.declared.jobs.Job.{Job}
 use Rattle.bow_copy.specs.declared.jobs.Job.TheVariants.{Rewrite, Link, Copy, Move}
@@ -24,12 +24,7 @@ use Rattle.bow_machine.specs.MemoryIsSound.{LogIsSound, LinkIsReady, CopyIsReady
 use Rattle.bow_machine.specs.Ties.{LogGoesOn}
 use Rattle.bow_machine.proofs.Spelled.{sum_small}
 use Rattle.bow_machine.proofs.RequestLists.{each_append}
-use Rattle.bow_machine.proofs.Tables.{holds_cases, kind_in, kind_out, kind_unsaved, count_with, count_part, count_one, count_unsaved, table_with, kind_other}
-use Rattle.bow_machine.proofs.BatchStands.{IsSpare, spare_not_0, above_0}
-use Rattle.bow_machine.proofs.BatchLogs.{not_unsaved, was_current}
-use Rattle.bow_machine.proofs.BatchLinks.{starts_some}
-use Rattle.bow_machine.proofs.BatchCopyLogs.{start_more, source_not_0, source_not_current, source_not_free, source_not_touched}
-use Rattle.bow_machine.proofs.BatchMoves.{moved_table, still_inside, moved_to, moved_cases}
+use Rattle.bow_machine.proofs.Tables.{holds_cases, kind_in, kind_out, kind_one, kind_unsaved, length_with, count_with, count_part, count_one, count_unsaved, table_with, kind_other}
 
 -- ----------------------------------------------------------------------------------------------------------------
 -- The length of a log's block.
@@ -55,17 +50,29 @@ spelling_length g log sizes few =
 -- ----------------------------------------------------------------------------------------------------------------
 -- Blocks are picked, or given up.
 
-spare_not_current : (k : Kind) → IsSpare k → k ≢ Current
+-- the kinds of blocks that are picked and given up
+abbrev pub IsSpare : Kind → Type 0
+IsSpare kind = (kind ≡ Free) ⊎ (kind ≡ BackupKind)
+
+pub spare_not_0 : (k : Kind) → IsSpare k → k ≢ Sector0
+spare_not_0 k h = grind arith
+
+pub spare_not_current : (k : Kind) → IsSpare k → k ≢ Current
 spare_not_current k h = grind arith
 
-spare_not_saved : (k : Kind) → IsSpare k → k ≢ Saved
+pub spare_not_saved : (k : Kind) → IsSpare k → k ≢ Saved
 spare_not_saved k h = grind arith
 
-spare_untouched : (k : Kind) → IsSpare k → is_touched k ≡ false
+pub spare_untouched : (k : Kind) → IsSpare k → is_touched k ≡ false
 spare_untouched k h = grind arith
 
-spare_uncounted : (k : Kind) → IsSpare k → (n : ℕ) → n * cond (is_touched k) 1 0 ≡ 0
+pub spare_uncounted : (k : Kind) → IsSpare k → (n : ℕ) → n * cond (is_touched k) 1 0 ≡ 0
 spare_uncounted k h n = rw (spare_untouched k h) (omega arith)
+
+-- block 0 has a kind of its own
+pub above_0 : (table : List Kind) (b : ℕ) → kind_at table 0 ≡ Sector0 → kind_at table b ≢ Sector0 → 0 < b
+above_0 table zero zeroth ne = absurd (ne zeroth)
+above_0 table (suc b) zeroth ne = omega arith
 
 module _ (g : Geometry) (table : List Kind) (e : Extent) (old kind : Kind) (is_table : IsTable g table) (inside : e.first + e.count ≤ g.blocks)
     (was : (j : ℕ) → j < e.count → kind_at table (e.first + j) ≡ old) (spare_old : IsSpare old) (spare : IsSpare kind) where
@@ -126,6 +133,58 @@ module _ (g : Geometry) (table : List Kind) (e : Extent) (old kind : Kind) (is_t
 
 -- ----------------------------------------------------------------------------------------------------------------
 -- What a log write changes.
+
+pub starts_some : (entries : List Backup) → StartsWith0 entries → 1 ≤ length entries
+starts_some [] h = absurd h
+starts_some (b ∷ bs) h = omega arith
+
+pub start_more : (entries : List Backup) (b : Backup) → 0 < b.source → StartsWith0 entries → StartsWith0 (entries ++ b ∷ [])
+start_more [] b above h = absurd h
+start_more (e ∷ es) b above h = (h.0, h.1, each_append (λ (other : Backup). 0 < other.source) es (b ∷ []) h.2 (above, tt))
+
+-- a kind from which blocks are copied
+pub source_not_0 : (k : Kind) → (k ≡ Unchanged) ⊎ (k ≡ BackupKind) → k ≢ Sector0
+source_not_0 k h = grind arith
+
+pub source_not_current : (k : Kind) → (k ≡ Unchanged) ⊎ (k ≡ BackupKind) → k ≢ Current
+source_not_current k h = grind arith
+
+pub source_not_free : (k : Kind) → (k ≡ Unchanged) ⊎ (k ≡ BackupKind) → is_free k ≡ false
+source_not_free k h = grind arith
+
+pub source_not_touched : (k : Kind) → (k ≡ Unchanged) ⊎ (k ≡ BackupKind) → is_touched k ≡ false
+source_not_touched k h = grind arith
+
+abbrev pub moved_table : List Kind → ℕ → ℕ → List Kind
+moved_table table from to = with_kind (with_kind table (one_block to) Current) (one_block from) Saved
+
+module _ (table : List Kind) (from to : ℕ) (inside : from < length table) (there : to < length table) where
+  pub still_inside : from < length (with_kind table (one_block to) Current)
+  still_inside = omega (arith, length_with table (one_block to) Current (omega (arith, there)))
+
+  pub moved_from : kind_at (moved_table table from to) from ≡ Saved
+  moved_from = kind_one (with_kind table (one_block to) Current) from Saved still_inside
+
+  pub moved_to : to ≢ from → kind_at (moved_table table from to) to ≡ Current
+  moved_to ne =
+      kind_other (with_kind table (one_block to) Current) from Saved to still_inside ne
+      ∙ kind_one table to Current there
+
+  pub moved_other : (x : ℕ) → x ≢ from → x ≢ to → kind_at (moved_table table from to) x ≡ kind_at table x
+  moved_other x not_from not_to =
+      kind_other (with_kind table (one_block to) Current) from Saved x still_inside not_from
+      ∙ kind_other table to Current x there not_to
+
+  -- each block is one of the two, or as it was
+  pub moved_cases : (P : ℕ → Kind → Type 0) → to ≢ from → P from Saved → P to Current
+      → ((x : ℕ) → x ≢ from → x ≢ to → P x (kind_at table x)) → (x : ℕ) → P x (kind_at (moved_table table from to) x)
+  moved_cases P ne at_from at_to other x = elim (cases_eq x from) [
+    | inl is ↦ subst (λ y. P y (kind_at (moved_table table from to) y)) (sym is) (subst (P from) (sym moved_from) at_from)
+    | inr not_from ↦ elim (cases_eq x to) [
+      | inl is ↦ subst (λ y. P y (kind_at (moved_table table from to) y)) (sym is) (subst (P to) (sym (moved_to ne)) at_to)
+      | inr not_to ↦ subst (P x) (sym (moved_other x not_from not_to)) (other x not_from not_to)
+    ]
+  ]
 
 source_not_saved : (k : Kind) → (k ≡ Unchanged) ⊎ (k ≡ BackupKind) → k ≢ Saved
 source_not_saved k h = grind arith
@@ -330,6 +389,24 @@ module _ (g : Geometry) (table : List Kind) (clean : Bool) (trimmed : ℕ) (log 
 
 -- ----------------------------------------------------------------------------------------------------------------
 -- The last flush.
+
+pub not_unsaved : (k : Kind) → unsaved k ≢ Saved
+not_unsaved Sector0 is = absurd (grind arith)
+not_unsaved Current is = absurd (grind arith)
+not_unsaved Unchanged is = absurd (grind arith)
+not_unsaved Free is = absurd (grind arith)
+not_unsaved Changed is = absurd (grind arith)
+not_unsaved BackupKind is = absurd (grind arith)
+not_unsaved Saved is = absurd (grind arith)
+
+pub was_current : (k : Kind) → unsaved k ≡ Current → k ≡ Current
+was_current Sector0 h = h
+was_current Current h = h
+was_current Unchanged h = h
+was_current Free h = h
+was_current Changed h = h
+was_current BackupKind h = h
+was_current Saved h = absurd (grind arith)
 
 -- the log is clean over what was saved and is changed now
 pub clean_log : (g : Geometry) (table : List Kind) (clean : Bool) (trimmed : ℕ) (log : Generation) → LogIsSound g table clean trimmed 0 log → LogIsSound g (map unsaved table) true trimmed 0 log

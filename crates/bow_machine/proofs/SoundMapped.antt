@@ -9,7 +9,7 @@ use Rattle.bow_units.specs.declared.sizes.Geometry.{Geometry}
 use Rattle.bow_units.specs.declared.requests.Phase.{Phase}
 use Rattle.bow_units.specs.declared.requests.Phase.TheVariants.{Trim, Arming, Checkpoint, Deciding, Committed}
 use Rattle.bow_units.specs.declared.statuses.Kind.{Kind}
-use Rattle.bow_units.specs.declared.statuses.Kind.TheVariants.{Sector0, Unchanged, Free, Changed}
+use Rattle.bow_units.specs.declared.statuses.Kind.TheVariants.{Sector0, Unchanged, Free}
 use Rattle.bow_log.specs.Generations.{Generation}
 use Rattle.bow_chain.specs.Contents.{Contents}
 use Rattle.bow_queue.specs.Requests.{open_writes}
@@ -18,16 +18,18 @@ use Rattle.bow_machine.specs.Requests.{Request, without_request, with_request, f
 use Rattle.bow_machine.specs.Memory.{Memory, Hand, Empty, Batching, Preparing, Committing, has_command, has_move, may_be_written, is_direct, kind_written, kinds_written, reserved}
 use Rattle.bow_machine.specs.Calls.{Reply, Failed, Succeeded, Gave}
 use Rattle.bow_machine.specs.Tasks.{WritesBlock, ReadsBlock}
-use Rattle.bow_machine.specs.Steps.{one_block, extent_of, with_read, above_0, kinds_discarded, call_of, step_of}
+use Rattle.bow_machine.specs.Steps.{extent_of, with_read, above_0, kinds_discarded, call_of, step_of}
 use Rattle.bow_machine.specs.MemoryIsSound.{IsTable, is_touched}
 use Rattle.bow_machine.specs.MemoryIsSound.{IsTransfer, IsAdmissible, IsWaiting, Rising, LogIsHeld, HandIsSound, MemoryIsSound}
 use Rattle.bow_machine.specs.MemoryLaws.{CanHaveIt}
-use Rattle.bow_machine.proofs.Tables.{kind_with, kind_freed, count_one, free_and_touched_freed, table_with, table_freed}
+use Rattle.bow_machine.proofs.Tables.{kind_with, kind_freed, free_and_touched_freed, table_with, table_freed}
 use Rattle.bow_machine.proofs.Mapped.{IsOpen, OpenChange}
-use Rattle.bow_machine.proofs.MappedWrites.{kinds_at_0, kinds_above, written_here, written_other, table_written, open_kind, open_written, open_counts}
+use Rattle.bow_machine.proofs.MappedWrites.{write_change, write_counts, written_here, written_other, table_written, open_kind}
 use Rattle.bow_machine.proofs.MappedDiscards.{above_fits}
 use Rattle.bow_machine.proofs.SoundLists.{few_without, few_with, rising_without, rising_with, waiting_without, waiting_with, found_waiting}
-use Rattle.bow_machine.proofs.SoundHands.{StillWaits, hand_in, log_open, sound_requests, waits_without, waits_with}
+use Rattle.bow_machine.proofs.Mapped.{log_open}
+use Rattle.bow_machine.proofs.SoundHands.{hand_in, sound_requests}
+use Rattle.bow_machine.proofs.Mapped.{StillWaits, waits_without, waits_with}
 use Rattle.bow_machine.proofs.SoundTasks.{IsApart, WritesNext, ReadsNext, DiscardsNow}
 
 -- ----------------------------------------------------------------------------------------------------------------
@@ -78,29 +80,8 @@ module _ (g : Geometry) (m : Memory) (r : Request) (b : ℕ) (s : MemoryIsSound 
   abbrev new : List Kind
   new = kinds_written m.phase m.kinds b
 
-  write_change : m.phase ≡ Checkpoint → OpenChange g m.kinds new
-  write_change is x inside = elim (which is) [
-    | inl at_0 ↦ inl (ap (λ (t : List Kind). kind_at t x) (kinds_at_0 m.phase m.kinds b at_0))
-    | inr (ne, is_open) ↦ elim (cases_eq x b) [
-      | inl same ↦
-          let here : kind_at new b ≡ Changed = written_here m.phase m.kinds b ne fits ∙ ap (λ (p : Phase). kind_written p (kind_at m.kinds b)) is ∙ open_written (kind_at m.kinds b) is_open in
-          inr (subst (λ y. IsOpen (kind_at m.kinds y)) (sym same) is_open, subst (λ y. IsOpen (kind_at new y)) (sym same) (inl here))
-      | inr other ↦ inl (written_other m.phase m.kinds b x fits other)
-    ]
-  ]
-
-  write_counts : m.phase ≡ Checkpoint → count_of is_free new + count_of is_touched new ≡ count_of is_free m.kinds + count_of is_touched m.kinds
-  write_counts is = elim (which is) [
-    | inl at_0 ↦ ap (λ (t : List Kind). count_of is_free t + count_of is_touched t) (kinds_at_0 m.phase m.kinds b at_0)
-    | inr (ne, is_open) ↦
-        let kind : kind_written m.phase (kind_at m.kinds b) ≡ Changed = ap (λ (p : Phase). kind_written p (kind_at m.kinds b)) is ∙ open_written (kind_at m.kinds b) is_open in
-        let table : new ≡ with_kind m.kinds (one_block b) Changed = kinds_above m.phase m.kinds b ne ∙ ap (with_kind m.kinds (one_block b)) kind in
-        let free = ap (count_of is_free) table in
-        let touched = ap (count_of is_touched) table in
-        let one_free = count_one m.kinds b Changed is_free fits in
-        let one_touched = count_one m.kinds b Changed is_touched fits in
-        omega (arith, free, touched, one_free, one_touched, open_counts (kind_at m.kinds b) is_open)
-  ]
+  changes : m.phase ≡ Checkpoint → OpenChange g m.kinds new
+  changes is = write_change g m b fits is (which is)
 
   -- once committed, and in Trim, the block is unchanged from then on
   unchanged_from : (p : Phase) → kind_written p (kind_at m.kinds b) ≡ Unchanged → (P : Kind → Type 0) → P Unchanged → ((x : ℕ) → 0 < x → x < g.blocks → P (kind_at m.kinds x))
@@ -120,7 +101,7 @@ module _ (g : Geometry) (m : Memory) (r : Request) (b : ℕ) (s : MemoryIsSound 
       go Trim is (Some log) k = absurd k
       go Arming is l k = absurd (w.settled.0 is)
       go Checkpoint is None k = absurd k
-      go Checkpoint is (Some log) k = log_open g m.kinds new m.clean m.trimmed (reserved m.hand).count log k.generation.current_inside (write_change is) (write_counts is) k
+      go Checkpoint is (Some log) k = log_open g m.kinds new m.clean m.trimmed (reserved m.hand).count (reserved m.hand).count log (changes is) (let counts = write_counts m b fits is (which is) in omega (arith, counts, k.room)) k
       go Deciding is l k = absurd (w.settled.1 is)
       go Committed is None k = subst (λ (q : Phase). LogIsHeld g (kinds_written q m.kinds b) m.clean m.trimmed (reserved m.hand).count Committed None) (sym is) (committed k)
         where
@@ -139,11 +120,11 @@ module _ (g : Geometry) (m : Memory) (r : Request) (b : ℕ) (s : MemoryIsSound 
   writes_sound now Succeeded can =
       sound_with g m new (with_request (record r { done = r.done + 1 }) m.requests) (table_written g m.phase m.kinds b w.inside s.table)
       (few_with (record r { done = r.done + 1 }) m.requests s.few) (waiting_with g (record r { done = r.done + 1 }) m.requests one_more_waits s.requests) (rising_with (record r { done = r.done + 1 }) m.requests s.rising)
-      write_log w.free write_change (waits_with g m (record r { done = r.done + 1 }) m.hand w.request.apart) s
+      write_log w.free changes (waits_with g m (record r { done = r.done + 1 }) m.hand w.request.apart) s
   writes_sound now Failed can =
       sound_with g m new (without_request r.ticket m.requests) (table_written g m.phase m.kinds b w.inside s.table)
       (few_without r.ticket m.requests s.few) (waiting_without g r.ticket m.requests s.requests) (rising_without r.ticket m.requests s.rising)
-      write_log w.free write_change (waits_without g m r.ticket m.hand w.request.apart) s
+      write_log w.free changes (waits_without g m r.ticket m.hand w.request.apart) s
   writes_sound now (Gave v) can = absurd can
 
 -- ----------------------------------------------------------------------------------------------------------------
@@ -238,8 +219,8 @@ module _ (g : Geometry) (m : Memory) (r : Request) (s : MemoryIsSound g m) (w : 
       go Trim is (Some log) k = absurd k
       go Arming is l k = absurd (w.settled.0 is)
       go Checkpoint is None k = absurd k
-      go Checkpoint is (Some log) k = log_open g m.kinds freed m.clean m.trimmed (reserved m.hand).count log k.generation.current_inside (freed_change is)
-          (subst (λ (t : List Kind). count_of is_free t + count_of is_touched t ≡ count_of is_free m.kinds + count_of is_touched m.kinds) (sym (ap (kinds_discarded g m e) is)) (free_and_touched_freed m.kinds e but)) k
+      go Checkpoint is (Some log) k = log_open g m.kinds freed m.clean m.trimmed (reserved m.hand).count (reserved m.hand).count log (freed_change is)
+          (let counts = subst (λ (t : List Kind). count_of is_free t + count_of is_touched t ≡ count_of is_free m.kinds + count_of is_touched m.kinds) (sym (ap (kinds_discarded g m e) is)) (free_and_touched_freed m.kinds e but) in omega (arith, counts, k.room)) k
       go Deciding is l k = absurd (w.settled.1 is)
       go Committed is None k = subst (λ (t : List Kind). LogIsHeld g t m.clean m.trimmed (reserved m.hand).count Committed None) (sym (ap (kinds_discarded g m e) is)) k
       go Committed is (Some log) k = absurd k

@@ -1,5 +1,5 @@
 -- In Checkpoint a step leaves the older logs behind the log in memory as they are.
-use Rattle.std.proofs.Common.{ℕ, ◌<◌, ◌≡◌, ◌≢◌, ◌⊎◌, Bool, true, cond, List, [], ◌∷◌, Option, Some, None, arith, refl, sym, ap, ◌∙◌, subst, inl, inr}
+use Rattle.std.proofs.Common.{ℕ, ◌<◌, ◌≡◌, ◌≢◌, ◌⊎◌, Bool, true, cond, List, ◌∷◌, Option, Some, None, arith, refl, sym, ap, ◌∙◌, subst, inl, inr}
 use Rattle.std.proofs.lemmas.Bool.{false≢true}
 use Rattle.bow_units.specs.declared.sizes.Extent.{Extent}
 use Rattle.bow_units.specs.declared.sizes.Geometry.{Geometry}
@@ -27,7 +27,7 @@ use Rattle.bow_ranges.specs.Kinds.{kind_at, holds}
 use Rattle.bow_machine.specs.Memory.{Memory, Batch, Hand, Empty, Batching, Preparing, Committing, PrepareAct, ReadsBlock0, WritesCurrent, WritesBackup, FlushesCopies, WritesFirstLog, FlushesFirstLog, CommitAct, FlushesAll, ReadsCurrent, WritesBlock0, FlushesDecision, picks, reserved, reserved_by, place_with, place_of}
 use Rattle.bow_machine.specs.Calls.{Call, ReadCall, WriteCall, FlushCall, Reply, Failed, Succeeded, Gave, WriteTried, Does, DoesIt}
 use Rattle.bow_machine.specs.Tasks.{Task, Waits, Answers, WritesBlock, ReadsBlock, FlushesFor, DiscardsFor, Acts, spelling, task_of}
-use Rattle.bow_machine.specs.Steps.{Step, log_for, call_of_act, call_of_prepare, call_of_commit, call_in_hand, act_step, call_of, step_of}
+use Rattle.bow_machine.specs.Steps.{log_for, call_of_act, call_of_prepare, call_of_commit, call_in_hand, act_step, call_of, step_of}
 use Rattle.bow_machine.proofs.Held.{device_of, IsKept, IsHeld}
 use Rattle.bow_machine.specs.MemoryIsSound.{PrepareIsSound, HandIsSound, MemoryIsSound}
 use Rattle.bow_machine.specs.MemoryLaws.{CanHaveIt}
@@ -47,11 +47,9 @@ use Rattle.bow_machine.proofs.Mapped.{IsOpen}
 use Rattle.bow_machine.proofs.SoundTasks.{IsFresh, ActsOn, TaskIsSound}
 use Rattle.bow_machine.proofs.SoundMapped.{which}
 use Rattle.bow_machine.proofs.SoundBatches.{GoesOn, InHand, in_hand_of, goes_on, stage, act_is, log_call, last_call, same_is, WritesNow}
-use Rattle.bow_machine.proofs.SoundCommands.{ActEnds, ActIsDone, WritesLog}
-use Rattle.bow_machine.proofs.SoundActs.{act_fails, act_done}
+use Rattle.bow_machine.proofs.SoundCommands.{WritesLog}
+use Rattle.bow_machine.proofs.SoundActs.{act_leaves}
 use Rattle.bow_machine.proofs.SoundTurns.{turn_sound}
-use Rattle.bow_machine.proofs.SoundSteps.{reply_ok}
-use Rattle.bow_machine.proofs.SoundTies.{ends_same}
 
 -- ----------------------------------------------------------------------------------------------------------------
 -- No write is of a block at which a log may keep what it needs.
@@ -209,7 +207,7 @@ module _ (g : Geometry) (m : Memory) (slots : List (List ℕ)) (t : Ticket) (log
   log_stays (Move from to) s tried =
       let w : Working g m (batching (Move from to) 3 slots t) log now may f = from_standing g m (batching (Move from to) 3 slots t) log now may f s in
       let h = (s.in_hand).before (omega arith) in
-      inl (record { valid = moves.new_ok g m from to slots t log f now new_now may new_may h.0 h.1 w; sequence = still.sequence; sums = still.sums; chain = still.chain })
+      inl (record { valid = (moves.change g m from to slots t log f now new_now may new_may h.0 h.1 w).sound.generation; sequence = still.sequence; sums = still.sums; chain = still.chain })
 
 -- a job whose first act writes its log leaves the log as it is
 first_writes : (job : Job) (slots : List (List ℕ)) (log : Generation) → lead job ≡ 0 → log_for job slots log ≡ log
@@ -279,17 +277,8 @@ module _ (g : Geometry) (now new_now : Contents) (may new_may : Candidates) (f :
       ]
     ]
       where
-        ended : (t : Ticket) (reply : Reply) → ActEnds g n t (act_step g now n n.hand reply) → (act_step g now n n.hand reply).memory.log ≡ Some new → (new ≡ log) ⊎ WritesLog n log new
-        ended t reply e is = e.written log new (a.log ∙ some) (sym (ends_same g n t (act_step g now n n.hand reply) e).1 ∙ is)
-
-        gone_on : (t : Ticket) (reply : Reply) → ActIsDone g n t (act_step g now n n.hand reply) → (act_step g now n n.hand reply).memory.log ≡ Some new → (new ≡ log) ⊎ WritesLog n log new
-        gone_on t reply (inl e) is = ended t reply e.ends is
-        gone_on t reply (inr go) is = go.written log new (a.log ∙ some) (ap (λ (y : Step). y.memory.log) (sym go.is) ∙ is)
-
         written : (reply : Reply) → CanHaveIt g (call_in_hand g n n.hand) reply → (act_step g now n n.hand reply).memory.log ≡ Some new → (new ≡ log) ⊎ WritesLog n log new
-        written Failed can is = let x = act_fails g n a.sound now n.hand refl a.busy in ended x.ticket Failed x.ends is
-        written Succeeded can is = let x = act_done g n a.sound now n.hand refl a.busy Succeeded can (reply_ok []).1 in gone_on x.ticket Succeeded x.done is
-        written (Gave v) can is = let x = act_done g n a.sound now n.hand refl a.busy (Gave v) can (reply_ok v).0 in gone_on x.ticket (Gave v) x.done is
+        written reply can is = (act_leaves g n a.sound now n.hand refl a.busy reply can).written log new (a.log ∙ some) is
 
     task_stays : (task : Task) → TaskIsSound g m task → (reply : Reply) → CanHaveIt g (call_of g m task) reply → DoesIt g (call_of g m task) reply now may new_now new_may → (new : Generation)
         → (step_of g now m task reply).memory.log ≡ Some new → Stays g new_now log new older
@@ -314,7 +303,7 @@ older_logs_stay g m turn reply now new_now may new_may f log new older standing 
     let can = (blocks_reply g m turn reply now new_now may new_may sound standing.blocks does).0 in
     let k : IsKept g m now may f Checkpoint log = standing_in g m now may f log Checkpoint at some s in
     let task = turn_sound g m turn sound in
-    let still = chain_stays g m now new_now may new_may f log older k behind (call_of g m (task_of g m turn)) reply (task_spares g m sound at log some k.current (task_of g m turn) task) does in
+    let still = chain_stays g m now new_now may new_may f log older k behind (call_of g m (task_of g m turn)) reply (task_spares g m sound at log some k.sound.current (task_of g m turn) task) does in
     task_stays g now new_now may new_may f log older behind still m s at some (task_of g m turn) task reply can does new is
 
 pub readers_follow : ReadersFollow

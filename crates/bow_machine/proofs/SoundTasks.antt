@@ -9,19 +9,22 @@ use Rattle.bow_units.specs.declared.requests.Phase.{Phase}
 use Rattle.bow_units.specs.declared.requests.Phase.TheVariants.{Trim, Arming, Checkpoint, Deciding, Committed}
 use Rattle.bow_units.specs.declared.requests.Outcome.{Outcome}
 use Rattle.bow_units.specs.declared.requests.Outcome.TheVariants as outcomes
+use Rattle.bow_units.specs.declared.statuses.Kind.{Kind}
 use Rattle.bow_units.specs.declared.statuses.Kind.TheVariants.{Free, Saved}
+use Rattle.bow_chain.specs.Contents.{Contents}
 use Rattle.bow_log.specs.Generations.{Generation}
 use Rattle.bow_queue.specs.Extents.{is_on_device}
 use Rattle.bow_queue.specs.Requests.{is_command}
 use Rattle.bow_queue.specs.declared.tickets.Ticket.{Ticket}
 use Rattle.bow_ranges.specs.Kinds.{holds, kind_at}
 use Rattle.bow_machine.specs.Requests.{Request, request_of, is_reserved, unsettled, refusal}
-use Rattle.bow_machine.specs.Memory.{ReadsBlock0, WritesFirstLog, FlushesAll, Memory, Batch, Hand, Empty, Batching, Preparing, Committing, has_command, has_move, may_be_written, is_direct, reserved}
+use Rattle.bow_machine.specs.Memory.{ReadsBlock0, WritesFirstLog, FlushesAll, Memory, Batch, Hand, Empty, Batching, Preparing, Committing, has_command, has_move, may_be_written, is_direct, kinds_written, reserved}
 use Rattle.bow_machine.specs.Tasks.{Map, Task, Waits, Answers, WritesBlock, ReadsBlock, FlushesFor, DiscardsFor, Acts, unless_refused, unless_command, is_waiting, task_for, map_task, task_of}
-use Rattle.bow_machine.specs.Steps.{Answered, extent_of}
+use Rattle.bow_machine.specs.Calls.{Reply, Failed, Succeeded, Gave}
+use Rattle.bow_machine.specs.Steps.{Answered, extent_of, kinds_discarded, act_step, call_in_hand, call_of, step_of}
 use Rattle.bow_machine.specs.MemoryIsSound.{IsRequest, is_touched, ForWrite}
 use Rattle.bow_machine.specs.MemoryIsSound.{BatchIsSound, HandIsSound, MemoryIsSound}
-use Rattle.bow_machine.specs.MemoryLaws.{tells_fault}
+use Rattle.bow_machine.specs.MemoryLaws.{CanHaveIt, tells_fault}
 use Rattle.bow_machine.specs.Ends.{left_in}
 use Rattle.bow_machine.proofs.Less.{IsLess}
 use Rattle.bow_machine.proofs.RequestLists.{found_ticket}
@@ -44,7 +47,7 @@ pub record AnswersIt (m : Memory) (r : Request) (outcome : Outcome) : Type 0 whe
   pub request : IsApart m r
   pub no_fault : tells_fault (Answered r.ticket r.op outcome) ≡ false
 
--- the next block of a write that passed the tests
+-- the next block of a write that passed the tests, and waits on none
 pub record WritesNext (g : Geometry) (m : Memory) (r : Request) (b : ℕ) : Type 0 where
   pub request : IsApart m r
   pub extent : Extent
@@ -55,6 +58,7 @@ pub record WritesNext (g : Geometry) (m : Memory) (r : Request) (b : ℕ) : Type
   pub inside : b < g.blocks
   pub settled : IsSettled m.phase
   pub direct : is_direct m m.phase b ≡ true
+  pub first : is_waiting m r ≡ false
   pub free : has_command m.hand ≡ false
   pub passed : refusal g m.phase r.op ≡ None
 
@@ -126,6 +130,29 @@ TaskIsSound g m (ReadsBlock r b) = ReadsNext g m r b
 TaskIsSound g m (FlushesFor r) = FlushesNow g m r
 TaskIsSound g m (DiscardsFor r) = DiscardsNow g m r
 TaskIsSound g m (Acts taken) = ActsOn g m taken
+
+-- What holds of the phase, the kinds and the log after a step: where they stay, where a block of a write was tried, after
+-- a discard, and after an act.
+pub task_by : (g : Geometry) (now : Contents) (m : Memory) (P : Phase → List Kind → Option Generation → Type 0) → P m.phase m.kinds m.log
+    → ((r : Request) (b : ℕ) → WritesNext g m r b → P m.phase (kinds_written m.phase m.kinds b) m.log)
+    → ((r : Request) → DiscardsNow g m r → P m.phase (kinds_discarded g m (extent_of r.op) m.phase) m.log)
+    → ((taken : Memory) (reply : Reply) → ActsOn g m taken → CanHaveIt g (call_in_hand g taken taken.hand) reply
+    → let after = (act_step g now taken taken.hand reply).memory in P after.phase after.kinds after.log)
+    → (task : Task) (reply : Reply) → TaskIsSound g m task → CanHaveIt g (call_of g m task) reply
+    → let after = (step_of g now m task reply).memory in P after.phase after.kinds after.log
+task_by g now m P same writes discards acts Waits reply is can = same
+task_by g now m P same writes discards acts (Answers r outcome) reply is can = same
+task_by g now m P same writes discards acts (WritesBlock r b) Failed is can = writes r b is
+task_by g now m P same writes discards acts (WritesBlock r b) Succeeded is can = writes r b is
+task_by g now m P same writes discards acts (WritesBlock r b) (Gave v) is can = absurd can
+task_by g now m P same writes discards acts (ReadsBlock r b) Failed is can = same
+task_by g now m P same writes discards acts (ReadsBlock r b) Succeeded is can = absurd can
+task_by g now m P same writes discards acts (ReadsBlock r b) (Gave v) is can = same
+task_by g now m P same writes discards acts (FlushesFor r) Failed is can = same
+task_by g now m P same writes discards acts (FlushesFor r) Succeeded is can = same
+task_by g now m P same writes discards acts (FlushesFor r) (Gave v) is can = absurd can
+task_by g now m P same writes discards acts (DiscardsFor r) reply is can = discards r is
+task_by g now m P same writes discards acts (Acts taken) reply is can = acts taken reply is can
 
 -- ----------------------------------------------------------------------------------------------------------------
 
@@ -215,8 +242,8 @@ module _ (g : Geometry) (m : Memory) (s : MemoryIsSound g m) (ticket : Ticket) (
     abbrev block : ℕ
     block = e.first + r.done
 
-    writes_next : refusal g m.phase (Write e p) ≡ None → (r.done == e.count) ≡ false → is_direct m m.phase block ≡ true → has_command m.hand ≡ false → WritesNext g m r block
-    writes_next passed more direct command = record {
+    writes_next : refusal g m.phase (Write e p) ≡ None → is_waiting m r ≡ false → (r.done == e.count) ≡ false → is_direct m m.phase block ≡ true → has_command m.hand ≡ false → WritesNext g m r block
+    writes_next passed first more direct command = record {
       request = not_the_write (ap is_command op) (λ b phase w same.
           let extent : w.extent ≡ e = write_parts w.extent e w.payload p (sym w.op ∙ ap (λ (x : Request). x.op) same ∙ op) in
           let mine : w.extent.first + w.write.done ≡ block = ap (λ (y : Extent). y.first + w.write.done) extent ∙ ap (λ (x : Request). e.first + x.done) same in
@@ -232,6 +259,7 @@ module _ (g : Geometry) (m : Memory) (s : MemoryIsSound g m) (ticket : Ticket) (
       inside = omega (arith, below, (write_inside g m.phase e p passed).0);
       settled = settled_phase m.phase (write_inside g m.phase e p passed).2;
       direct = direct;
+      first = first;
       free = command;
       passed = ap (refusal g m.phase) op ∙ passed;
     }
@@ -278,7 +306,7 @@ module _ (g : Geometry) (m : Memory) (s : MemoryIsSound g m) (ticket : Ticket) (
   task_sound (Write e p) is = sound_free _ (λ command. sound_unless (refusal g m.phase (Write e p)) _ (λ outcome refusing. refused (Write e p) is refl outcome refusing) (λ passed.
       sound_if (is_waiting m r) Waits _ (λ waits. tt) (λ first.
       sound_if (r.done == e.count) (Answers r outcomes.Done) _ (λ full. all_done e p is full) (λ more.
-      sound_if (is_direct m m.phase (e.first + r.done)) (WritesBlock r (e.first + r.done)) Waits (λ direct. writes_next e p is passed more direct command) (λ held. tt)))))
+      sound_if (is_direct m m.phase (e.first + r.done)) (WritesBlock r (e.first + r.done)) Waits (λ direct. writes_next e p is passed first more direct command) (λ held. tt)))))
   task_sound (Discard e) is = sound_free _ (λ command. sound_unless (refusal g m.phase (Discard e)) (DiscardsFor r) (λ outcome refusing. refused (Discard e) is refl outcome refusing) (λ passed. discards_now e is passed command))
   task_sound Flush is = sound_free _ (λ command. sound_unless (refusal g m.phase Flush) (FlushesFor r) (λ outcome refusing. refused Flush is refl outcome refusing) (λ passed. record { request = other_op Flush is refl (λ x q e. absurd (grind arith)); op = is; passed = passed }))
   task_sound Prepare is = tt

@@ -1,5 +1,5 @@
 -- What ties a batch to its write, and that nothing is changed or saved before the checkpoint begins.
-use Rattle.std.proofs.Common.{ℕ, ◌+◌, ◌<◌, ◌≤◌, ◌≡◌, ◌≢◌, ◌⊎◌, Bool, true, false, cond, List, [], length, Option, Some, None, arith, refl, sym, ap, ◌∙◌, subst, subst₂, inl, inr}
+use Rattle.std.proofs.Common.{ℕ, ◌+◌, ◌<◌, ◌≤◌, ◌≡◌, ◌≢◌, ◌⊎◌, Bool, true, false, cond, List, length, Option, Some, None, arith, refl, sym, ap, ◌∙◌, subst, subst₂, inl, inr}
 use Rattle.std.proofs.lemmas.Bool.{cases_eq, false≢true}
 use Rattle.bow_units.specs.declared.sizes.Geometry.{Geometry}
 use Rattle.bow_units.specs.declared.requests.Phase.{Phase}
@@ -11,12 +11,11 @@ use Rattle.bow_flat.specs.Flat.{Event}
 use Rattle.bow_log.specs.Generations.{Generation}
 use Rattle.bow_chain.specs.Contents.{Contents}
 use Rattle.bow_queue.specs.Requests.{open_writes}
-use Rattle.bow_queue.specs.declared.tickets.Ticket.{Ticket}
 use Rattle.bow_ranges.specs.Kinds.{kind_at, holds}
 use Rattle.bow_machine.specs.Requests.{Request, request_of, refusal}
 use Rattle.bow_machine.specs.Memory.{Memory, Batch, Hand, Empty, Batching, Preparing, Committing, PrepareAct, ReadsBlock0, WritesCurrent, WritesBackup, FlushesCopies, WritesFirstLog, FlushesFirstLog, CommitAct, FlushesAll, ReadsCurrent, WritesBlock0, FlushesDecision, kind_written, kinds_written, reserved}
 use Rattle.bow_machine.specs.Calls.{Reply, Failed, Succeeded, Gave}
-use Rattle.bow_machine.specs.Tasks.{Task, Waits, Answers, WritesBlock, ReadsBlock, FlushesFor, DiscardsFor, Acts, task_of}
+use Rattle.bow_machine.specs.Tasks.{Task, task_of}
 use Rattle.bow_copy.specs.Acts.{next_act, after_act}
 use Rattle.bow_copy.specs.declared.jobs.After.{After}
 use Rattle.bow_copy.specs.declared.jobs.After.TheVariants as afters
@@ -29,12 +28,12 @@ use Rattle.bow_machine.specs.Ties.{IsNextOf, SavedIsNext, IsLeftOf, TouchedIsLef
 use Rattle.bow_machine.proofs.Tables.{kind_with, kind_freed}
 use Rattle.bow_machine.proofs.MappedWrites.{kinds_at_0, written_here, written_other}
 use Rattle.bow_machine.proofs.MappedDiscards.{above_fits}
-use Rattle.bow_machine.proofs.SoundTasks.{WritesNext, ActsOn, IsFresh, DiscardsNow, TaskIsSound, batch_in_hand}
+use Rattle.bow_machine.proofs.SoundTasks.{WritesNext, ActsOn, IsFresh, DiscardsNow, TaskIsSound, task_by, batch_in_hand}
 use Rattle.bow_machine.proofs.SoundBatches.{same_log}
-use Rattle.bow_machine.proofs.SoundCommands.{none_counted, ActEnds, ActIsDone}
-use Rattle.bow_machine.proofs.SoundActs.{act_fails, act_done}
+use Rattle.bow_machine.proofs.Counts.{none_counted}
+use Rattle.bow_machine.proofs.SoundCommands.{LeavesSo}
+use Rattle.bow_machine.proofs.SoundActs.{act_leaves}
 use Rattle.bow_machine.proofs.SoundTurns.{turn_sound}
-use Rattle.bow_machine.proofs.SoundSteps.{reply_ok}
 use Rattle.std.specs.List.{list_any}
 
 -- ----------------------------------------------------------------------------------------------------------------
@@ -63,123 +62,54 @@ write_saves p table b x on is = elim (cases_eq x b) [
   ]
 ]
 
-discard_saves : (g : Geometry) (m : Memory) (r : Request) (x : ℕ) → MemoryIsSound g m → DiscardsNow g m r → x < g.blocks → kind_at (kinds_discarded g m (extent_of r.op) m.phase) x ≡ Saved → kind_at m.kinds x ≡ Saved
-discard_saves g m r x s w on is = go m.phase is
+-- a discard leaves a block as it is, or free
+discarded_kind : (g : Geometry) (m : Memory) (r : Request) (x : ℕ) → MemoryIsSound g m → DiscardsNow g m r → x < g.blocks
+    → let new = kinds_discarded g m (extent_of r.op) m.phase in (kind_at new x ≡ kind_at m.kinds x) ⊎ (kind_at new x ≡ Free)
+discarded_kind g m r x s w on = go m.phase
   where
     inside : (extent_of r.op).first + (extent_of r.op).count ≤ g.blocks
     inside = subst (λ o. (extent_of o).first + (extent_of o).count ≤ g.blocks) (sym w.op) w.inside
 
-    go : (p : Phase) → kind_at (kinds_discarded g m (extent_of r.op) p) x ≡ Saved → kind_at m.kinds x ≡ Saved
-    go Trim is = at (holds (above_0 (extent_of r.op)) x) (sym (kind_with m.kinds (above_0 (extent_of r.op)) Free x (omega (arith, (above_fits g (extent_of r.op) s.sizes.enough inside).1, s.table.size))) ∙ is)
+    go : (p : Phase) → (kind_at (kinds_discarded g m (extent_of r.op) p) x ≡ kind_at m.kinds x) ⊎ (kind_at (kinds_discarded g m (extent_of r.op) p) x ≡ Free)
+    go Trim = at (holds (above_0 (extent_of r.op)) x) (kind_with m.kinds (above_0 (extent_of r.op)) Free x (omega (arith, (above_fits g (extent_of r.op) s.sizes.enough inside).1, s.table.size)))
       where
-        at : (t : Bool) → cond t Free (kind_at m.kinds x) ≡ Saved → kind_at m.kinds x ≡ Saved
-        at true clash = absurd (grind arith)
-        at false same = same
-    go Checkpoint is = elim (kind_freed m.kinds (extent_of r.op) (open_writes g.blocks m.requests) x (omega (arith, on, s.table.size))) [
-      | inl (was, held, covered, free) ↦ absurd (let clash : Free ≡ Saved = sym free ∙ is in grind arith)
-      | inr same ↦ sym same ∙ is
-    ]
-    go Arming is = is
-    go Deciding is = is
-    go Committed is = is
-
-discard_touches : (g : Geometry) (m : Memory) (r : Request) (x : ℕ) → MemoryIsSound g m → DiscardsNow g m r → x < g.blocks → is_touched (kind_at (kinds_discarded g m (extent_of r.op) m.phase) x) ≡ true → is_touched (kind_at m.kinds x) ≡ true
-discard_touches g m r x s w on is = go m.phase is
-  where
-    inside : (extent_of r.op).first + (extent_of r.op).count ≤ g.blocks
-    inside = subst (λ o. (extent_of o).first + (extent_of o).count ≤ g.blocks) (sym w.op) w.inside
-
-    go : (p : Phase) → is_touched (kind_at (kinds_discarded g m (extent_of r.op) p) x) ≡ true → is_touched (kind_at m.kinds x) ≡ true
-    go Trim is = at (holds (above_0 (extent_of r.op)) x) (sym (ap is_touched (kind_with m.kinds (above_0 (extent_of r.op)) Free x (omega (arith, (above_fits g (extent_of r.op) s.sizes.enough inside).1, s.table.size)))) ∙ is)
-      where
-        at : (t : Bool) → is_touched (cond t Free (kind_at m.kinds x)) ≡ true → is_touched (kind_at m.kinds x) ≡ true
-        at true clash = absurd (false≢true clash)
-        at false same = same
-    go Checkpoint is = elim (kind_freed m.kinds (extent_of r.op) (open_writes g.blocks m.requests) x (omega (arith, on, s.table.size))) [
-      | inl (was, held, covered, free) ↦ absurd (false≢true (ap is_touched (sym free) ∙ is))
-      | inr same ↦ ap is_touched (sym same) ∙ is
-    ]
-    go Arming is = is
-    go Deciding is = is
-    go Committed is = is
+        at : (t : Bool) → kind_at (kinds_discarded g m (extent_of r.op) Trim) x ≡ cond t Free (kind_at m.kinds x)
+            → (kind_at (kinds_discarded g m (extent_of r.op) Trim) x ≡ kind_at m.kinds x) ⊎ (kind_at (kinds_discarded g m (extent_of r.op) Trim) x ≡ Free)
+        at true is = inr is
+        at false is = inl is
+    go Checkpoint = elim (kind_freed m.kinds (extent_of r.op) (open_writes g.blocks m.requests) x (omega (arith, on, s.table.size))) [ inl freed ↦ inr freed.3 | inr same ↦ inl same ]
+    go Arming = inl refl
+    go Deciding = inl refl
+    go Committed = inl refl
 
 -- ----------------------------------------------------------------------------------------------------------------
 -- An act saves next blocks of its write, and its log's sequence rises only where the log is full.
 
-module _ (g : Geometry) (m : Memory) (t : Ticket) (step : Step) where
-  -- the kinds and the log after it are those of the memory left
-  pub ends_same : (e : ActEnds g m t step) → (step.memory.kinds ≡ e.left.kinds) × (step.memory.log ≡ e.left.log)
-  ends_same e = subst (λ (x : Step). (x.memory.kinds ≡ e.left.kinds) × (x.memory.log ≡ e.left.log)) (sym e.is) (answered (request_of t m.requests))
-    where
-      answered : (o : Option Request) → ((answered_for e.left o e.outcome e.happens).memory.kinds ≡ e.left.kinds) × ((answered_for e.left o e.outcome e.happens).memory.log ≡ e.left.log)
-      answered None = (refl, refl)
-      answered (Some r) = (refl, refl)
-
-  ends_saved : ActEnds g m t step → (x : ℕ) → x < g.blocks → kind_at step.memory.kinds x ≡ Saved → (kind_at m.kinds x ≡ Saved) ⊎ IsNextOf g m x
-  ends_saved e x on is = e.saved x on (ap (λ (k : List Kind). kind_at k x) (sym (ends_same e).0) ∙ is)
-
-  ends_touched : ActEnds g m t step → (x : ℕ) → x < g.blocks → is_touched (kind_at step.memory.kinds x) ≡ true → (is_touched (kind_at m.kinds x) ≡ true) ⊎ IsLeftOf g m x
-  ends_touched e x on is = e.touched x on (ap (λ (k : List Kind). is_touched (kind_at k x)) (sym (ends_same e).0) ∙ is)
-
-  ends_goes_on : ActEnds g m t step → (old new : Generation) → m.log ≡ Some old → step.memory.log ≡ Some new → LogGoesOn g m.kinds step.memory.kinds old new
-  ends_goes_on e old new was is = subst (λ (k : List Kind). LogGoesOn g m.kinds k old new) (sym (ends_same e).0) (e.goes_on old new was (sym (ends_same e).1 ∙ is))
-
-  ends_stays : (e : ActEnds g m t step) → step.memory.phase ≢ Committed → (x : ℕ) → x < g.blocks → is_touched (kind_at m.kinds x) ≡ true → IsTouchedStill (kind_at m.kinds x) (kind_at step.memory.kinds x)
-  ends_stays e going x on is = subst (λ (k : List Kind). IsTouchedStill (kind_at m.kinds x) (kind_at k x)) (sym (ends_same e).0) (e.stays (λ at. going (phase_same e ∙ at)) x on is)
-    where
-      answered_phase : (left : Memory) (o : Option Request) (outcome : Request → Outcome) (happens : Request → List Event) → (answered_for left o outcome happens).memory.phase ≡ left.phase
-      answered_phase left None outcome happens = refl
-      answered_phase left (Some r) outcome happens = refl
-
-      phase_same : (e : ActEnds g m t step) → step.memory.phase ≡ e.left.phase
-      phase_same e = ap (λ (x : Step). x.memory.phase) e.is ∙ answered_phase e.left (request_of t m.requests) e.outcome e.happens
-
-  done_stays : ActIsDone g m t step → step.memory.phase ≢ Committed → (x : ℕ) → x < g.blocks → is_touched (kind_at m.kinds x) ≡ true → IsTouchedStill (kind_at m.kinds x) (kind_at step.memory.kinds x)
-  done_stays (inl a) going x on is = ends_stays a.ends going x on is
-  done_stays (inr go) going x on is = subst (λ (k : List Kind). IsTouchedStill (kind_at m.kinds x) (kind_at k x)) (ap (λ (y : Step). y.memory.kinds) (sym go.is)) (go.stays (λ at. going (ap (λ (y : Step). y.memory.phase) go.is ∙ at)) x on is)
-
-  done_saved : ActIsDone g m t step → (x : ℕ) → x < g.blocks → kind_at step.memory.kinds x ≡ Saved → (kind_at m.kinds x ≡ Saved) ⊎ IsNextOf g m x
-  done_saved (inl a) x on is = ends_saved a.ends x on is
-  done_saved (inr go) x on is = go.saved x on (ap (λ (y : Step). kind_at y.memory.kinds x) (sym go.is) ∙ is)
-
-  done_touched : ActIsDone g m t step → (x : ℕ) → x < g.blocks → is_touched (kind_at step.memory.kinds x) ≡ true → (is_touched (kind_at m.kinds x) ≡ true) ⊎ IsLeftOf g m x
-  done_touched (inl a) x on is = ends_touched a.ends x on is
-  done_touched (inr go) x on is = go.touched x on (ap (λ (y : Step). is_touched (kind_at y.memory.kinds x)) (sym go.is) ∙ is)
-
-  done_goes_on : ActIsDone g m t step → (old new : Generation) → m.log ≡ Some old → step.memory.log ≡ Some new → LogGoesOn g m.kinds step.memory.kinds old new
-  done_goes_on (inl a) old new was is = ends_goes_on a.ends old new was is
-  done_goes_on (inr go) old new was is = subst (λ (k : List Kind). LogGoesOn g m.kinds k old new) (ap (λ (y : Step). y.memory.kinds) (sym go.is)) (go.goes_on old new was (ap (λ (y : Step). y.memory.log) (sym go.is) ∙ is))
-
 module _ (g : Geometry) (m : Memory) (now : Contents) (s : MemoryIsSound g m) where
-  act_saved : (taken : Memory) → ActsOn g m taken → (reply : Reply) → CanHaveIt g (call_in_hand g taken taken.hand) reply → (x : ℕ) → x < g.blocks
-      → kind_at (act_step g now taken taken.hand reply).memory.kinds x ≡ Saved → (kind_at m.kinds x ≡ Saved) ⊎ IsNextOf g m x
-  act_saved taken a reply can x on is = elim (from reply can is) [
-    | inl was ↦ inl (a.saved x was)
-    | inr next ↦ elim a.less [
-      | inl same ↦ inr (subst (λ n. IsNextOf g n x) same next)
-      | inr first ↦ absurd (never taken.hand refl first.1 next)
-    ]
-  ]
-    where
-      never : (hand : Hand) → taken.hand ≡ hand → IsFresh hand → IsNextOf g taken x → ⊥
-      never Empty is fresh next = let clash : Empty ≡ Batching next.batch = sym is ∙ next.in_hand in absurd (grind arith)
-      never (Batching b) is fresh next =
-          let same : Batching b ≡ Batching next.batch = sym is ∙ next.in_hand in
-          let e : b ≡ next.batch = cc same in
-          let done : b.progress.done ≡ next.batch.progress.done = ap (λ (c : Batch). c.progress.done) e in
-          absurd (omega (arith, done, fresh, next.begun))
-      never (Preparing t c b act) is fresh next = let clash : Preparing t c b act ≡ Batching next.batch = sym is ∙ next.in_hand in absurd (grind arith)
-      never (Committing t again act) is fresh next = let clash : Committing t again act ≡ Batching next.batch = sym is ∙ next.in_hand in absurd (grind arith)
+  -- what an act leaves, of what was acted on
+  leaves : (taken : Memory) (a : ActsOn g m taken) (reply : Reply) → CanHaveIt g (call_in_hand g taken taken.hand) reply
+      → let after = (act_step g now taken taken.hand reply).memory in LeavesSo g taken after.phase after.kinds after.log
+  leaves taken a reply can = act_leaves g taken a.sound now taken.hand refl a.busy reply can
 
-      from : (reply : Reply) → CanHaveIt g (call_in_hand g taken taken.hand) reply → kind_at (act_step g now taken taken.hand reply).memory.kinds x ≡ Saved → (kind_at taken.kinds x ≡ Saved) ⊎ IsNextOf g taken x
-      from Failed can is = let f = act_fails g taken a.sound now taken.hand refl a.busy in ends_saved g taken f.ticket (act_step g now taken taken.hand Failed) f.ends x on is
-      from Succeeded can is = let d = act_done g taken a.sound now taken.hand refl a.busy Succeeded can (reply_ok []).1 in done_saved g taken d.ticket (act_step g now taken taken.hand Succeeded) d.done x on is
-      from (Gave v) can is = let d = act_done g taken a.sound now taken.hand refl a.busy (Gave v) can (reply_ok v).0 in done_saved g taken d.ticket (act_step g now taken taken.hand (Gave v)) d.done x on is
+  -- a batch that was formed just now has not begun
+  never : (taken : Memory) (x : ℕ) (hand : Hand) → taken.hand ≡ hand → IsFresh hand → IsNextOf g taken x → ⊥
+  never taken x Empty is fresh next = let clash : Empty ≡ Batching next.batch = sym is ∙ next.in_hand in absurd (grind arith)
+  never taken x (Batching b) is fresh next =
+      let same : Batching b ≡ Batching next.batch = sym is ∙ next.in_hand in
+      let e : b ≡ next.batch = cc same in
+      let done : b.progress.done ≡ next.batch.progress.done = ap (λ (c : Batch). c.progress.done) e in
+      absurd (omega (arith, done, fresh, next.begun))
+  never taken x (Preparing t c b act) is fresh next = let clash : Preparing t c b act ≡ Batching next.batch = sym is ∙ next.in_hand in absurd (grind arith)
+  never taken x (Committing t again act) is fresh next = let clash : Committing t again act ≡ Batching next.batch = sym is ∙ next.in_hand in absurd (grind arith)
 
   -- from what was acted on to the memory before the turn
-  from_taken : (taken : Memory) → ActsOn g m taken → (x : ℕ) → (is_touched (kind_at taken.kinds x) ≡ true) ⊎ IsLeftOf g taken x → (is_touched (kind_at m.kinds x) ≡ true) ⊎ IsLeftOf g m x
-  from_taken taken a x (inl was) = inl (a.touched x was)
-  from_taken taken a x (inr next) = inr (record { write = next.write; waits = ap (request_of next.write.ticket) (sym a.requests) ∙ next.waits; extent = next.extent; payload = next.payload; op = next.op; passed = ap (λ p. refusal g p next.write.op) (sym a.phase) ∙ next.passed; from = next.from; below = next.below })
+  next_from_taken : (taken : Memory) → ActsOn g m taken → (x : ℕ) → (kind_at taken.kinds x ≡ Saved) ⊎ IsNextOf g taken x → (kind_at m.kinds x ≡ Saved) ⊎ IsNextOf g m x
+  next_from_taken taken a x (inl was) = inl (a.saved x was)
+  next_from_taken taken a x (inr next) = elim a.less [ inl same ↦ inr (subst (λ n. IsNextOf g n x) same next) | inr first ↦ absurd (never taken x taken.hand refl first.1 next) ]
+
+  left_from_taken : (taken : Memory) → ActsOn g m taken → (x : ℕ) → (is_touched (kind_at taken.kinds x) ≡ true) ⊎ IsLeftOf g taken x → (is_touched (kind_at m.kinds x) ≡ true) ⊎ IsLeftOf g m x
+  left_from_taken taken a x (inl was) = inl (a.touched x was)
+  left_from_taken taken a x (inr left) = inr (record { write = left.write; waits = ap (request_of left.write.ticket) (sym a.requests) ∙ left.waits; extent = left.extent; payload = left.payload; op = left.op; passed = ap (λ p. refusal g p left.write.op) (sym a.phase) ∙ left.passed; from = left.from; below = left.below })
 
   log_from_taken : (taken : Memory) (table : List Kind) (old new : Generation) → ActsOn g m taken → LogGoesOn g taken.kinds table old new → LogGoesOn g m.kinds table old new
   log_from_taken taken table old new a h = record {
@@ -190,33 +120,8 @@ module _ (g : Geometry) (m : Memory) (now : Contents) (s : MemoryIsSound g m) wh
     ];
   }
 
-  act_touched : (taken : Memory) → ActsOn g m taken → (reply : Reply) → CanHaveIt g (call_in_hand g taken taken.hand) reply → (x : ℕ) → x < g.blocks
-      → is_touched (kind_at (act_step g now taken taken.hand reply).memory.kinds x) ≡ true → (is_touched (kind_at m.kinds x) ≡ true) ⊎ IsLeftOf g m x
-  act_touched taken a Failed can x on is = let f = act_fails g taken a.sound now taken.hand refl a.busy in from_taken taken a x (ends_touched g taken f.ticket (act_step g now taken taken.hand Failed) f.ends x on is)
-  act_touched taken a Succeeded can x on is = let d = act_done g taken a.sound now taken.hand refl a.busy Succeeded can (reply_ok []).1 in from_taken taken a x (done_touched g taken d.ticket (act_step g now taken taken.hand Succeeded) d.done x on is)
-  act_touched taken a (Gave v) can x on is = let d = act_done g taken a.sound now taken.hand refl a.busy (Gave v) can (reply_ok v).0 in from_taken taken a x (done_touched g taken d.ticket (act_step g now taken taken.hand (Gave v)) d.done x on is)
-
-  act_goes_on : (taken : Memory) → ActsOn g m taken → (reply : Reply) → CanHaveIt g (call_in_hand g taken taken.hand) reply → (old new : Generation) → m.log ≡ Some old
-      → (act_step g now taken taken.hand reply).memory.log ≡ Some new → LogGoesOn g m.kinds (act_step g now taken taken.hand reply).memory.kinds old new
-  act_goes_on taken a Failed can old new was is = let f = act_fails g taken a.sound now taken.hand refl a.busy in log_from_taken taken _ old new a (ends_goes_on g taken f.ticket (act_step g now taken taken.hand Failed) f.ends old new (a.log ∙ was) is)
-  act_goes_on taken a Succeeded can old new was is = let d = act_done g taken a.sound now taken.hand refl a.busy Succeeded can (reply_ok []).1 in log_from_taken taken _ old new a (done_goes_on g taken d.ticket (act_step g now taken taken.hand Succeeded) d.done old new (a.log ∙ was) is)
-  act_goes_on taken a (Gave v) can old new was is = let d = act_done g taken a.sound now taken.hand refl a.busy (Gave v) can (reply_ok v).0 in log_from_taken taken _ old new a (done_goes_on g taken d.ticket (act_step g now taken taken.hand (Gave v)) d.done old new (a.log ∙ was) is)
-
-  task_saved : (task : Task) → TaskIsSound g m task → (reply : Reply) → CanHaveIt g (call_of g m task) reply → (x : ℕ) → x < g.blocks → kind_at (step_of g now m task reply).memory.kinds x ≡ Saved
-      → (kind_at m.kinds x ≡ Saved) ⊎ IsNextOf g m x
-  task_saved Waits is reply can x on saved = inl saved
-  task_saved (Answers r outcome) is reply can x on saved = inl saved
-  task_saved (WritesBlock r b) is Failed can x on saved = inl (write_saves m.phase m.kinds b x (omega (arith, is.inside, s.table.size)) saved)
-  task_saved (WritesBlock r b) is Succeeded can x on saved = inl (write_saves m.phase m.kinds b x (omega (arith, is.inside, s.table.size)) saved)
-  task_saved (WritesBlock r b) is (Gave v) can x on saved = absurd can
-  task_saved (ReadsBlock r b) is Failed can x on saved = inl saved
-  task_saved (ReadsBlock r b) is Succeeded can x on saved = absurd can
-  task_saved (ReadsBlock r b) is (Gave v) can x on saved = inl saved
-  task_saved (FlushesFor r) is Failed can x on saved = inl saved
-  task_saved (FlushesFor r) is Succeeded can x on saved = inl saved
-  task_saved (FlushesFor r) is (Gave v) can x on saved = absurd can
-  task_saved (DiscardsFor r) is reply can x on saved = inl (discard_saves g m r x s is on saved)
-  task_saved (Acts taken) is reply can x on saved = act_saved taken is reply can x on saved
+  -- ----------------------------------------------------------------------------------------------------------------
+  -- What a step leaves of the kinds and the log.
 
   -- a block that a write may have written
   written_left : (r : Request) (b : ℕ) → WritesNext g m r b → (x : ℕ) → is_touched (kind_at (kinds_written m.phase m.kinds b) x) ≡ true → (is_touched (kind_at m.kinds x) ≡ true) ⊎ IsLeftOf g m x
@@ -225,37 +130,26 @@ module _ (g : Geometry) (m : Memory) (now : Contents) (s : MemoryIsSound g m) wh
     | inr ne ↦ inl (ap is_touched (sym (written_other m.phase m.kinds b x (omega (arith, w.inside, s.table.size)) ne)) ∙ is)
   ]
 
-  task_touched : (task : Task) → TaskIsSound g m task → (reply : Reply) → CanHaveIt g (call_of g m task) reply → (x : ℕ) → x < g.blocks → is_touched (kind_at (step_of g now m task reply).memory.kinds x) ≡ true
-      → (is_touched (kind_at m.kinds x) ≡ true) ⊎ IsLeftOf g m x
-  task_touched Waits is reply can x on touched = inl touched
-  task_touched (Answers r outcome) is reply can x on touched = inl touched
-  task_touched (WritesBlock r b) is Failed can x on touched = written_left r b is x touched
-  task_touched (WritesBlock r b) is Succeeded can x on touched = written_left r b is x touched
-  task_touched (WritesBlock r b) is (Gave v) can x on touched = absurd can
-  task_touched (ReadsBlock r b) is Failed can x on touched = inl touched
-  task_touched (ReadsBlock r b) is Succeeded can x on touched = absurd can
-  task_touched (ReadsBlock r b) is (Gave v) can x on touched = inl touched
-  task_touched (FlushesFor r) is Failed can x on touched = inl touched
-  task_touched (FlushesFor r) is Succeeded can x on touched = inl touched
-  task_touched (FlushesFor r) is (Gave v) can x on touched = absurd can
-  task_touched (DiscardsFor r) is reply can x on touched = inl (discard_touches g m r x s is on touched)
-  task_touched (Acts taken) is reply can x on touched = act_touched taken is reply can x on touched
+  task_saved : (x : ℕ) → x < g.blocks → (task : Task) (reply : Reply) → TaskIsSound g m task → CanHaveIt g (call_of g m task) reply
+      → kind_at (step_of g now m task reply).memory.kinds x ≡ Saved → (kind_at m.kinds x ≡ Saved) ⊎ IsNextOf g m x
+  task_saved x on = task_by g now m (λ phase table log. kind_at table x ≡ Saved → (kind_at m.kinds x ≡ Saved) ⊎ IsNextOf g m x) inl
+      (λ r b w is. inl (write_saves m.phase m.kinds b x (omega (arith, w.inside, s.table.size)) is))
+      (λ r w is. elim (discarded_kind g m r x s w on) [ inl same ↦ inl (sym same ∙ is) | inr free ↦ absurd (let clash : Free ≡ Saved = sym free ∙ is in grind arith) ])
+      (λ taken reply a can is. next_from_taken taken a x ((leaves taken a reply can).saved x on is))
 
-  task_goes_on : (task : Task) → TaskIsSound g m task → (reply : Reply) → CanHaveIt g (call_of g m task) reply → (old new : Generation) → m.log ≡ Some old → (step_of g now m task reply).memory.log ≡ Some new
-      → LogGoesOn g m.kinds (step_of g now m task reply).memory.kinds old new
-  task_goes_on Waits is reply can old new was now_is = same_log g m.kinds m.kinds m.log old new was now_is
-  task_goes_on (Answers r outcome) is reply can old new was now_is = same_log g m.kinds m.kinds m.log old new was now_is
-  task_goes_on (WritesBlock r b) is Failed can old new was now_is = same_log g m.kinds (kinds_written m.phase m.kinds b) m.log old new was now_is
-  task_goes_on (WritesBlock r b) is Succeeded can old new was now_is = same_log g m.kinds (kinds_written m.phase m.kinds b) m.log old new was now_is
-  task_goes_on (WritesBlock r b) is (Gave v) can old new was now_is = absurd can
-  task_goes_on (ReadsBlock r b) is Failed can old new was now_is = same_log g m.kinds m.kinds m.log old new was now_is
-  task_goes_on (ReadsBlock r b) is Succeeded can old new was now_is = absurd can
-  task_goes_on (ReadsBlock r b) is (Gave v) can old new was now_is = same_log g m.kinds m.kinds m.log old new was now_is
-  task_goes_on (FlushesFor r) is Failed can old new was now_is = same_log g m.kinds m.kinds m.log old new was now_is
-  task_goes_on (FlushesFor r) is Succeeded can old new was now_is = same_log g m.kinds m.kinds m.log old new was now_is
-  task_goes_on (FlushesFor r) is (Gave v) can old new was now_is = absurd can
-  task_goes_on (DiscardsFor r) is reply can old new was now_is = same_log g m.kinds (kinds_discarded g m (extent_of r.op) m.phase) m.log old new was now_is
-  task_goes_on (Acts taken) is reply can old new was now_is = act_goes_on taken is reply can old new was now_is
+  task_touched : (x : ℕ) → x < g.blocks → (task : Task) (reply : Reply) → TaskIsSound g m task → CanHaveIt g (call_of g m task) reply
+      → is_touched (kind_at (step_of g now m task reply).memory.kinds x) ≡ true → (is_touched (kind_at m.kinds x) ≡ true) ⊎ IsLeftOf g m x
+  task_touched x on = task_by g now m (λ phase table log. is_touched (kind_at table x) ≡ true → (is_touched (kind_at m.kinds x) ≡ true) ⊎ IsLeftOf g m x) inl
+      (λ r b w is. written_left r b w x is)
+      (λ r w is. elim (discarded_kind g m r x s w on) [ inl same ↦ inl (ap is_touched (sym same) ∙ is) | inr free ↦ absurd (false≢true (ap is_touched (sym free) ∙ is)) ])
+      (λ taken reply a can is. left_from_taken taken a x ((leaves taken a reply can).touched x on is))
+
+  task_goes_on : (old new : Generation) → m.log ≡ Some old → (task : Task) (reply : Reply) → TaskIsSound g m task → CanHaveIt g (call_of g m task) reply
+      → (step_of g now m task reply).memory.log ≡ Some new → LogGoesOn g m.kinds (step_of g now m task reply).memory.kinds old new
+  task_goes_on old new was = task_by g now m (λ phase table log. log ≡ Some new → LogGoesOn g m.kinds table old new) (same_log g m.kinds m.kinds m.log old new was)
+      (λ r b w is. same_log g m.kinds (kinds_written m.phase m.kinds b) m.log old new was is)
+      (λ r w is. same_log g m.kinds (kinds_discarded g m (extent_of r.op) m.phase) m.log old new was is)
+      (λ taken reply a can is. log_from_taken taken _ old new a ((leaves taken a reply can).goes_on old new (a.log ∙ was) is))
 
   -- in Trim no block is touched
   trim_untouched : m.phase ≡ Trim → (x : ℕ) → x < g.blocks → is_touched (kind_at m.kinds x) ≡ false
@@ -311,44 +205,25 @@ module _ (g : Geometry) (m : Memory) (now : Contents) (s : MemoryIsSound g m) wh
       go Deciding at = refl
       go Committed at = refl
 
-  act_stays : (taken : Memory) → ActsOn g m taken → (reply : Reply) → CanHaveIt g (call_in_hand g taken taken.hand) reply → (x : ℕ) → x < g.blocks → is_touched (kind_at m.kinds x) ≡ true
-      → (act_step g now taken taken.hand reply).memory.phase ≢ Committed → IsTouchedStill (kind_at m.kinds x) (kind_at (act_step g now taken taken.hand reply).memory.kinds x)
-  act_stays taken a reply can x on is going =
-      subst (λ k. IsTouchedStill k (kind_at (act_step g now taken taken.hand reply).memory.kinds x)) (a.stays x is) (from reply can (ap is_touched (a.stays x is) ∙ is) going)
-    where
-      from : (reply : Reply) → CanHaveIt g (call_in_hand g taken taken.hand) reply → is_touched (kind_at taken.kinds x) ≡ true → (act_step g now taken taken.hand reply).memory.phase ≢ Committed
-          → IsTouchedStill (kind_at taken.kinds x) (kind_at (act_step g now taken taken.hand reply).memory.kinds x)
-      from Failed can is going = let f = act_fails g taken a.sound now taken.hand refl a.busy in ends_stays g taken f.ticket (act_step g now taken taken.hand Failed) f.ends going x on is
-      from Succeeded can is going = let d = act_done g taken a.sound now taken.hand refl a.busy Succeeded can (reply_ok []).1 in done_stays g taken d.ticket (act_step g now taken taken.hand Succeeded) d.done going x on is
-      from (Gave v) can is going = let d = act_done g taken a.sound now taken.hand refl a.busy (Gave v) can (reply_ok v).0 in done_stays g taken d.ticket (act_step g now taken taken.hand (Gave v)) d.done going x on is
-
-  task_stays : (task : Task) → TaskIsSound g m task → (reply : Reply) → CanHaveIt g (call_of g m task) reply → (x : ℕ) → x < g.blocks → list_any (λ write. holds write x) (open_writes g.blocks m.requests) ≡ true
-      → is_touched (kind_at m.kinds x) ≡ true → (step_of g now m task reply).memory.phase ≢ Committed → IsTouchedStill (kind_at m.kinds x) (kind_at (step_of g now m task reply).memory.kinds x)
-  task_stays Waits is reply can x on covered touched going = inl refl
-  task_stays (Answers r outcome) is reply can x on covered touched going = inl refl
-  task_stays (WritesBlock r b) is Failed can x on covered touched going = inl (written_stays r b is x on touched)
-  task_stays (WritesBlock r b) is Succeeded can x on covered touched going = inl (written_stays r b is x on touched)
-  task_stays (WritesBlock r b) is (Gave v) can x on covered touched going = absurd can
-  task_stays (ReadsBlock r b) is Failed can x on covered touched going = inl refl
-  task_stays (ReadsBlock r b) is Succeeded can x on covered touched going = absurd can
-  task_stays (ReadsBlock r b) is (Gave v) can x on covered touched going = inl refl
-  task_stays (FlushesFor r) is Failed can x on covered touched going = inl refl
-  task_stays (FlushesFor r) is Succeeded can x on covered touched going = inl refl
-  task_stays (FlushesFor r) is (Gave v) can x on covered touched going = absurd can
-  task_stays (DiscardsFor r) is reply can x on covered touched going = inl (discard_stays r x on covered touched)
-  task_stays (Acts taken) is reply can x on covered touched going = act_stays taken is reply can x on touched going
+  task_stays : (x : ℕ) → x < g.blocks → list_any (λ write. holds write x) (open_writes g.blocks m.requests) ≡ true → is_touched (kind_at m.kinds x) ≡ true
+      → (task : Task) (reply : Reply) → TaskIsSound g m task → CanHaveIt g (call_of g m task) reply
+      → (step_of g now m task reply).memory.phase ≢ Committed → IsTouchedStill (kind_at m.kinds x) (kind_at (step_of g now m task reply).memory.kinds x)
+  task_stays x on covered touched = task_by g now m (λ phase table log. phase ≢ Committed → IsTouchedStill (kind_at m.kinds x) (kind_at table x)) (λ going. inl refl)
+      (λ r b w going. inl (written_stays r b w x on touched)) (λ r w going. inl (discard_stays r x on covered touched))
+      (λ taken reply a can going. subst (λ k. IsTouchedStill k (kind_at (act_step g now taken taken.hand reply).memory.kinds x)) (a.stays x touched)
+      ((leaves taken a reply can).stays going x on (ap is_touched (a.stays x touched) ∙ touched)))
 
 pub covered_stays_touched : CoveredStaysTouched
-covered_stays_touched g m turn reply now b s can on covered touched going = task_stays g m now s (task_of g m turn) (turn_sound g m turn s) reply can b on covered touched going
+covered_stays_touched g m turn reply now b s can on covered touched going = task_stays g m now s b on covered touched (task_of g m turn) reply (turn_sound g m turn s) can going
 
 pub saved_is_next : SavedIsNext
-saved_is_next g m turn reply now b s can on saved = task_saved g m now s (task_of g m turn) (turn_sound g m turn s) reply can b on saved
+saved_is_next g m turn reply now b s can on saved = task_saved g m now s b on (task_of g m turn) reply (turn_sound g m turn s) can saved
 
 pub touched_is_left : TouchedIsLeft
-touched_is_left g m turn reply now b s can on touched = task_touched g m now s (task_of g m turn) (turn_sound g m turn s) reply can b on touched
+touched_is_left g m turn reply now b s can on touched = task_touched g m now s b on (task_of g m turn) reply (turn_sound g m turn s) can touched
 
 pub logs_go_on : LogsGoOn
-logs_go_on g m turn reply now log new s can was is = task_goes_on g m now s (task_of g m turn) (turn_sound g m turn s) reply can log new was is
+logs_go_on g m turn reply now log new s can was is = task_goes_on g m now s log new was (task_of g m turn) reply (turn_sound g m turn s) can is
 
 -- ----------------------------------------------------------------------------------------------------------------
 -- Arming.
@@ -397,25 +272,16 @@ module _ (g : Geometry) (m : Memory) (now : Contents) (s : MemoryIsSound g m) (a
       commit FlushesDecision h = absurd (not_trim Deciding (λ e. grind arith) h)
 
 module _ (g : Geometry) (m : Memory) (now : Contents) (s : MemoryIsSound g m) (at : m.phase ≡ Arming) where
-  task_same : (task : Task) → TaskIsSound g m task → (reply : Reply) → CanHaveIt g (call_of g m task) reply → IsSame m (step_of g now m task reply)
-  task_same Waits is reply can = (refl, refl)
-  task_same (Answers r outcome) is reply can = (refl, refl)
-  task_same (WritesBlock r b) is reply can = absurd (is.settled.0 at)
-  task_same (ReadsBlock r b) is Failed can = (refl, refl)
-  task_same (ReadsBlock r b) is Succeeded can = absurd can
-  task_same (ReadsBlock r b) is (Gave v) can = (refl, refl)
-  task_same (FlushesFor r) is Failed can = (refl, refl)
-  task_same (FlushesFor r) is Succeeded can = (refl, refl)
-  task_same (FlushesFor r) is (Gave v) can = absurd can
-  task_same (DiscardsFor r) is reply can = absurd (is.settled.0 at)
-  task_same (Acts taken) is reply can =
-      let same = hand_same g taken now is.sound (is.phase ∙ at) taken.hand refl reply can in
-      (same.0 ∙ is.log, same.1 ∙ elim is.table [ inl there ↦ absurd (let clash : Checkpoint ≡ Arming = sym there ∙ is.phase ∙ at in grind arith) | inr table ↦ table ])
+  task_same : (task : Task) (reply : Reply) → TaskIsSound g m task → CanHaveIt g (call_of g m task) reply → IsSame m (step_of g now m task reply)
+  task_same = task_by g now m (λ phase table log. (log ≡ m.log) × (table ≡ m.kinds)) (refl, refl) (λ r b w. absurd (w.settled.0 at)) (λ r w. absurd (w.settled.0 at))
+      (λ taken reply a can.
+      let same = hand_same g taken now a.sound (a.phase ∙ at) taken.hand refl reply can in
+      (same.0 ∙ a.log, same.1 ∙ elim a.table [ inl there ↦ absurd (let clash : Checkpoint ≡ Arming = sym there ∙ a.phase ∙ at in grind arith) | inr table ↦ table ]))
 
 pub arming_is_untouched : ArmingIsUntouched
 arming_is_untouched g m turn reply now log s can at some =
     let k = subst₂ (λ p l. LogIsHeld g m.kinds m.clean m.trimmed (reserved m.hand).count p l) at some s.log in
-    let same = task_same g m now s at (task_of g m turn) (turn_sound g m turn s) reply can in
+    let same = task_same g m now s at (task_of g m turn) reply (turn_sound g m turn s) can in
     (k.1, same.0, same.1, λ b on. let no : is_touched (kind_at m.kinds b) ≡ false = none_counted is_touched m.kinds b k.2 (omega (arith, on, s.table.size)) in (λ is. false≢true (sym no ∙ ap is_touched is), λ is. false≢true (sym no ∙ ap is_touched is)))
 
 -- ----------------------------------------------------------------------------------------------------------------
@@ -491,24 +357,10 @@ module _ (g : Geometry) (m : Memory) (now : Contents) (s : MemoryIsSound g m) wh
       commit FlushesDecision Succeeded can = answered_from (released m) (request_of t m.requests) _ _ m.phase (other Committed (λ e. grind arith))
       commit FlushesDecision (Gave v) can = absurd can
 
-task_from : (g : Geometry) (m : Memory) (now : Contents) (s : MemoryIsSound g m) (task : Task) → TaskIsSound g m task
-    → (reply : Reply) → CanHaveIt g (call_of g m task) reply → IsFromIt m.phase (step_of g now m task reply).memory.phase
-task_from g m now s Waits is reply can = inl
-task_from g m now s (Answers r outcome) is reply can = inl
-task_from g m now s (WritesBlock r b) is Failed can = inl
-task_from g m now s (WritesBlock r b) is Succeeded can = inl
-task_from g m now s (WritesBlock r b) is (Gave v) can = absurd can
-task_from g m now s (ReadsBlock r b) is Failed can = inl
-task_from g m now s (ReadsBlock r b) is Succeeded can = absurd can
-task_from g m now s (ReadsBlock r b) is (Gave v) can = inl
-task_from g m now s (FlushesFor r) is Failed can = inl
-task_from g m now s (FlushesFor r) is Succeeded can = inl
-task_from g m now s (FlushesFor r) is (Gave v) can = absurd can
-task_from g m now s (DiscardsFor r) is reply can = inl
-task_from g m now s (Acts taken) is reply can = λ at. elim (hand_from g taken now is.sound taken.hand refl reply can at) [
-  | inl here ↦ inl (sym is.phase ∙ here)
-  | inr arming ↦ inr (sym is.phase ∙ arming)
-]
+task_from : (g : Geometry) (m : Memory) (now : Contents) (s : MemoryIsSound g m) (task : Task) (reply : Reply) → TaskIsSound g m task
+    → CanHaveIt g (call_of g m task) reply → IsFromIt m.phase (step_of g now m task reply).memory.phase
+task_from g m now s = task_by g now m (λ phase table log. IsFromIt m.phase phase) inl (λ r b w. inl) (λ r w. inl)
+    (λ taken reply a can at. elim (hand_from g taken now a.sound taken.hand refl reply can at) [ inl here ↦ inl (sym a.phase ∙ here) | inr arming ↦ inr (sym a.phase ∙ arming) ])
 
 pub checkpoint_follows : CheckpointFollows
-checkpoint_follows g m turn reply now s can at = task_from g m now s (task_of g m turn) (turn_sound g m turn s) reply can at
+checkpoint_follows g m turn reply now s can at = task_from g m now s (task_of g m turn) reply (turn_sound g m turn s) can at

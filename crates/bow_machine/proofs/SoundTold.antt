@@ -1,97 +1,40 @@
 -- For each thing that a step of sound memory tells: its row, and its events.
-use Rattle.std.proofs.Common.{ℕ, ◌+◌, ◌≡◌, ◌≢◌, ◌⊎◌, ◌==◌, nat_lt, Bool, true, false, not, cond, List, [], ◌∷◌, length, Option, Some, None, arith, refl, sym, ap, ◌∙◌, subst, inl, inr}
-use Rattle.std.proofs.lemmas.Bool.{cond_both, eqb-true, false≢true}
+use Rattle.std.proofs.Common.{ℕ, ◌+◌, ◌≡◌, ◌≢◌, ◌⊎◌, ◌==◌, nat_lt, Bool, true, false, cond, List, [], ◌∷◌, Option, Some, None, arith, refl, sym, ap, ◌∙◌, subst, inl, inr}
+use Rattle.std.proofs.lemmas.Bool.{cond_both, and_parts, eqb-true, false≢true}
 use Rattle.bow_units.specs.declared.sizes.Extent.{Extent}
 use Rattle.bow_units.specs.declared.sizes.Geometry.{Geometry}
 use Rattle.bow_units.specs.declared.requests.Op.{Op}
 use Rattle.bow_units.specs.declared.requests.Op.TheVariants.{Read, Write, Discard, Flush, Prepare, Commit}
 use Rattle.bow_units.specs.declared.requests.Outcome.{Outcome}
-use Rattle.bow_units.specs.declared.requests.Outcome.TheVariants.{Done, Data, NoSpace, DiskFault, OutOfRange, ReservedMagic, WrongPhase, Unsettled}
+use Rattle.bow_units.specs.declared.requests.Outcome.TheVariants.{Done, Data, NoSpace, DiskFault, WrongPhase}
 use Rattle.bow_units.specs.declared.requests.Phase.{Phase}
 use Rattle.bow_units.specs.declared.requests.Phase.TheVariants.{Trim, Arming, Checkpoint, Deciding, Committed}
-use Rattle.bow_log.specs.Generations.{Generation, room}
+use Rattle.bow_log.specs.Generations.{Generation}
 use Rattle.bow_chain.specs.Contents.{Contents}
 use Rattle.bow_copy.specs.Acts.{next_act}
-use Rattle.bow_copy.specs.declared.jobs.Job.TheVariants.{Rewrite, Link, Move}
 use Rattle.bow_flat.specs.Flat.{Event, block_at}
-use Rattle.bow_flat.specs.Flat.Event.{Arms, Decides, Writes, Fails, Reads, Discards, Flushes, Prepares, Commits}
-use Rattle.bow_queue.specs.Extents.{is_on_device}
+use Rattle.bow_flat.specs.Flat.Event.{Arms, Decides, Writes, Fails, Reads, Discards, Flushes, Prepares}
 use Rattle.bow_queue.specs.Requests.{is_command}
 use Rattle.bow_queue.specs.declared.tickets.Ticket.{Ticket}
-use Rattle.bow_ranges.specs.Kinds.{kind_at, is_free, count_of}
+use Rattle.bow_ranges.specs.Kinds.{is_free, count_of}
 use Rattle.bow_ranges.specs.Picks.{picked}
-use Rattle.bow_machine.specs.Requests.{Request, request_of, without_request, with_request, is_reserved, unsettled, refusal}
-use Rattle.bow_machine.specs.Memory.{Memory, Batch, Hand, Empty, Batching, Preparing, Committing, PrepareAct, ReadsBlock0, WritesCurrent, WritesBackup, FlushesCopies, WritesFirstLog, FlushesFirstLog, CommitAct, FlushesAll, ReadsCurrent, WritesBlock0, FlushesDecision, has_command, is_direct, is_kind_current}
+use Rattle.bow_machine.specs.Requests.{Request, request_of, without_request, with_request, refusal}
+use Rattle.bow_machine.specs.Memory.{Memory, Batch, Hand, Empty, Batching, Preparing, Committing, PrepareAct, ReadsBlock0, WritesCurrent, WritesBackup, FlushesCopies, WritesFirstLog, FlushesFirstLog, CommitAct, FlushesAll, ReadsCurrent, WritesBlock0, FlushesDecision, has_command, is_direct}
 use Rattle.bow_machine.specs.Calls.{WriteCall, Reply, Failed, Succeeded, Gave}
-use Rattle.bow_machine.specs.Tasks.{Turn, Map, Worker, Command, Task, Waits, Answers, WritesBlock, ReadsBlock, FlushesFor, DiscardsFor, Acts, unless_refused, unless_command, is_waiting, task_for, map_task, needs_worker, head, batch_for, with_batch, on_picked, copied_from, copy_onto, spelling, formed, formed_for, serve, worker_task, without_picked, prepare_on, taken, take_first, command_task, task_of}
+use Rattle.bow_machine.specs.Tasks.{Turn, Map, Worker, Command, Task, Waits, Answers, WritesBlock, ReadsBlock, FlushesFor, DiscardsFor, Acts, unless_refused, unless_command, is_waiting, task_for, map_task, needs_worker, head, formed_for, serve, worker_task, without_picked, prepare_on, taken, take_first, command_task, task_of}
 use Rattle.bow_machine.specs.Steps.{Step, with_read, answered_for, fault_after, fault_events, released, commit_failed, call_of_act, payload_of, extent_of, next_block, deciding_events, committing_events, batch_step, prepare_step, commit_step, act_step, call_in_hand, call_of_prepare, call_of_commit, call_of, step_of}
 use Rattle.bow_machine.specs.MemoryIsSound.{FoundIn}
 use Rattle.bow_machine.specs.MemoryIsSound.{PrepareIsSound, CommitIsSound, IsForCommand, HandIsSound, MemoryIsSound}
 use Rattle.bow_machine.specs.MemoryLaws.{CanHave, CanHaveIt, HasNoBlock, HasNoTwo}
-use Rattle.bow_machine.specs.Told.{AnswerRow, MovedRow, ToldRow, StepsTellSo, IsArmingAct, IsDecidingAct, ActsTellSo}
+use Rattle.bow_machine.specs.Told.{EndsCommit, AnswerRow, MovedRow, ToldRow, StepsTellSo, IsArmingAct, IsDecidingAct, ActsTellSo}
 use Rattle.bow_machine.proofs.RequestLists.{find_passes, found_ticket}
 use Rattle.bow_machine.proofs.Commands.{command_answers}
+use Rattle.bow_machine.proofs.FormedHeads.{passes}
 use Rattle.bow_machine.proofs.SoundTasks.{is_busy, TaskIsSound, IsFresh, ActsOn}
 use Rattle.bow_machine.proofs.SoundBatches.{in_hand_of, batch_fails, batch_goes}
 use Rattle.bow_machine.proofs.SoundTurns.{turn_sound}
 use Rattle.bow_machine.proofs.SoundSteps.{reply_ok}
-use Rattle.bow_machine.proofs.SoundSpace.{no_space_is_exact, prepare_space_is_exact}
-
--- ----------------------------------------------------------------------------------------------------------------
--- Refusals.
-
--- what a test refuses with
-abbrev Refuses : Option Outcome → Type 0
-Refuses None = Unit {0}
-Refuses (Some OutOfRange) = Unit {0}
-Refuses (Some ReservedMagic) = Unit {0}
-Refuses (Some (Unsettled p)) = Unit {0}
-Refuses (Some outcome) = ⊥
-
-unsettled_refuses : (p : Phase) → Refuses (unsettled p)
-unsettled_refuses Trim = tt
-unsettled_refuses Arming = tt
-unsettled_refuses Checkpoint = tt
-unsettled_refuses Deciding = tt
-unsettled_refuses Committed = tt
-
-refusal_refuses : (g : Geometry) (p : Phase) (op : Op) → Refuses (refusal g p op)
-refusal_refuses g p (Read e q) = cond_both (is_on_device g.blocks e) None (Some OutOfRange) Refuses (λ h. tt) (λ h. tt)
-refusal_refuses g p (Write e q) = cond_both (is_on_device g.blocks e) _ (Some OutOfRange) Refuses (λ h. cond_both (is_reserved e q) (Some ReservedMagic) (unsettled p) Refuses (λ r. tt) (λ r. unsettled_refuses p)) (λ h. tt)
-refusal_refuses g p (Discard e) = cond_both (is_on_device g.blocks e) (unsettled p) (Some OutOfRange) Refuses (λ h. unsettled_refuses p) (λ h. tt)
-refusal_refuses g p Flush = unsettled_refuses p
-refusal_refuses g p Prepare = tt
-refusal_refuses g p Commit = tt
-
-module _ (g : Geometry) (m : Memory) (r : Request) where
-  refuses : (op : Op) (outcome : Outcome) → refusal g m.phase op ≡ Some outcome → Refuses (Some outcome)
-  refuses op outcome is = subst Refuses is (refusal_refuses g m.phase op)
-
-  -- a refusal is its own row
-  refused_row : (op : Op) (outcome : Outcome) → refusal g m.phase op ≡ Some outcome → AnswerRow g m r op outcome []
-  refused_row op Done is = absurd (refuses op Done is)
-  refused_row op Data is = absurd (refuses op Data is)
-  refused_row op (NoSpace n) is = absurd (refuses op (NoSpace n) is)
-  refused_row op (DiskFault n) is = absurd (refuses op (DiskFault n) is)
-  refused_row op (WrongPhase p) is = absurd (refuses op (WrongPhase p) is)
-  refused_row (Read e q) OutOfRange is = (is, refl)
-  refused_row (Read e q) ReservedMagic is = (is, refl)
-  refused_row (Read e q) (Unsettled p) is = (is, refl)
-  refused_row (Write e q) OutOfRange is = (is, refl)
-  refused_row (Write e q) ReservedMagic is = (is, refl)
-  refused_row (Write e q) (Unsettled p) is = (is, refl)
-  refused_row (Discard e) OutOfRange is = (is, refl)
-  refused_row (Discard e) ReservedMagic is = (is, refl)
-  refused_row (Discard e) (Unsettled p) is = (is, refl)
-  refused_row Flush OutOfRange is = (is, refl)
-  refused_row Flush ReservedMagic is = (is, refl)
-  refused_row Flush (Unsettled p) is = (is, refl)
-  refused_row Prepare OutOfRange is = (is, refl)
-  refused_row Prepare ReservedMagic is = (is, refl)
-  refused_row Prepare (Unsettled p) is = (is, refl)
-  refused_row Commit OutOfRange is = (is, refl)
-  refused_row Commit ReservedMagic is = (is, refl)
-  refused_row Commit (Unsettled p) is = (is, refl)
+use Rattle.bow_machine.proofs.SoundSpace.{formed_only, no_space_is_exact, prepare_space_is_exact}
 
 -- ----------------------------------------------------------------------------------------------------------------
 -- Answers without a call.
@@ -119,15 +62,15 @@ module _ (g : Geometry) (m : Memory) where
     where
       go : (o : Option Outcome) → refusal g m.phase op ≡ o → So (unless_refused r o task)
       go None passed = goes passed
-      go (Some outcome) refused = row_of r op outcome is (refused_row g m r op outcome refused)
+      go (Some outcome) refused = row_of r op outcome is (inl (refused, refl))
 
   so_free : (task : Task) → So task → So (unless_command m task)
   so_free task so = cond_both (has_command m.hand) Waits task So (λ busy. tt) (λ free. so)
 
   map_so : (r : Request) (op : Op) → r.op ≡ op → So (task_for g m r op)
-  map_so r (Read e p) is = so_unless r (Read e p) is _ (λ passed. cond_both (r.done == e.count) (Answers r Data) (ReadsBlock r (e.first + r.done)) So (λ full. row_of r (Read e p) Data is (passed, eqb-true r.done e.count full, refl)) (λ more. tt))
+  map_so r (Read e p) is = so_unless r (Read e p) is _ (λ passed. cond_both (r.done == e.count) (Answers r Data) (ReadsBlock r (e.first + r.done)) So (λ full. row_of r (Read e p) Data is (inr (passed, inl (refl, eqb-true r.done e.count full, refl)))) (λ more. tt))
   map_so r (Write e p) is = so_free _ (so_unless r (Write e p) is _ (λ passed. cond_both (is_waiting m r) Waits _ So (λ waits. tt) (λ first.
-      cond_both (r.done == e.count) (Answers r Done) _ So (λ full. row_of r (Write e p) Done is (passed, eqb-true r.done e.count full, refl)) (λ more.
+      cond_both (r.done == e.count) (Answers r Done) _ So (λ full. row_of r (Write e p) Done is (inr (passed, inl (refl, eqb-true r.done e.count full, refl)))) (λ more.
       cond_both (is_direct m m.phase (e.first + r.done)) (WritesBlock r (e.first + r.done)) Waits So (λ direct. tt) (λ held. tt)))))
   map_so r (Discard e) is = so_free _ (so_unless r (Discard e) is (DiscardsFor r) (λ passed. tt))
   map_so r Flush is = so_free _ (so_unless r Flush is (FlushesFor r) (λ passed. tt))
@@ -144,25 +87,14 @@ module _ (g : Geometry) (m : Memory) where
   acts_only : (n : Memory) → Only (Acts n)
   acts_only n other outcome is = absurd (grind arith)
 
-  picked_only : (n : Memory) (r : Request) (batch : Extent → Batch) (o : Option Extent) → Only (on_picked n r batch o)
-  picked_only n r batch None other outcome is = let same : r ≡ other = cc is in let what : NoSpace r.done ≡ outcome = cc is in sym what ∙ ap (λ (q : Request). NoSpace q.done) same
-  picked_only n r batch (Some e) other outcome is = absurd (grind arith)
-
-  formed_only : (r : Request) (e : Extent) (log : Generation) → Only (formed g m r e log)
-  formed_only r e log =
-      cond_both (not m.clean) _ _ Only (λ h. acts_only (with_batch m (batch_for r Rewrite [])))
-      (λ h. cond_both (is_kind_current (kind_at m.kinds (e.first + r.done))) _ _ Only (λ c. picked_only m r (λ to. batch_for r (Move (e.first + r.done) to.first) []) (picked m.kinds 1))
-      (λ c. cond_both (length log.entries == room g.block_size) _ _ Only (λ f. picked_only m r (λ dest. batch_for r (Link dest.first) (spelling g log ∷ [])) (picked m.kinds 1))
-      (λ f. picked_only m r (λ dest. batch_for r (copy_onto (copied_from m r e) dest) []) (picked m.kinds (copied_from m r e).count))))
-
   formed_for_only : (r : Request) (op : Op) (log : Option Generation) → Only (formed_for g m r op log)
-  formed_for_only r (Write e p) (Some log) = formed_only r e log
-  formed_for_only r (Write e p) None = waits_only
-  formed_for_only r (Read e p) log = waits_only
-  formed_for_only r (Discard e) log = waits_only
-  formed_for_only r Flush log = waits_only
-  formed_for_only r Prepare log = waits_only
-  formed_for_only r Commit log = waits_only
+  formed_for_only r (Write e p) (Some log) other outcome is = (formed_only g m r e log other outcome is).1
+  formed_for_only r (Write e p) None other outcome is = waits_only other outcome is
+  formed_for_only r (Read e p) log other outcome is = waits_only other outcome is
+  formed_for_only r (Discard e) log other outcome is = waits_only other outcome is
+  formed_for_only r Flush log other outcome is = waits_only other outcome is
+  formed_for_only r Prepare log other outcome is = waits_only other outcome is
+  formed_for_only r Commit log other outcome is = waits_only other outcome is
 
   serve_only : (found : Option Request) → Only (serve g m found)
   serve_only None = waits_only
@@ -180,7 +112,7 @@ module _ (g : Geometry) (m : Memory) where
 
   -- the head is a write
   head_row : (r : Request) (op : Op) → r.op ≡ op → needs_worker g m r op ≡ true → HasNoBlock g m r → So (Answers r (NoSpace r.done))
-  head_row r (Write e p) is needs none = row_of r (Write e p) (NoSpace r.done) is (refl, none, refl)
+  head_row r (Write e p) is needs none = row_of r (Write e p) (NoSpace r.done) is (inr (passes _ (and_parts _ _ (and_parts _ _ (and_parts _ _ needs).0).0).0, inr (inr (refl, none, refl))))
   head_row r (Read e p) is needs none = absurd (false≢true needs)
   head_row r (Discard e) is needs none = absurd (false≢true needs)
   head_row r Flush is needs none = absurd (false≢true needs)
@@ -203,15 +135,25 @@ module _ (g : Geometry) (m : Memory) where
     is_not : (p other : Phase) → m.phase ≡ p → p ≢ other → m.phase ≢ other
     is_not p other is ne e = ne (sym is ∙ e)
 
-    phase_row : (r : Request) (op : Op) (phase : Phase) (outcome : Outcome) → r.op ≡ op → WrongPhase phase ≡ outcome → AnswerRow g m r op (WrongPhase phase) [] → So (Answers r outcome)
-    phase_row r op phase outcome is what row = subst (λ o. So (Answers r o)) what (row_of r op (WrongPhase phase) is row)
+    -- a command that has no place in this phase is refused so, with nothing in hand
+    abbrev Misplaced : Request → Op → Phase → Outcome → Type 0
+    Misplaced r op phase outcome = (WrongPhase phase ≡ outcome) × (AnswerRow g m r op (WrongPhase m.phase) [])
+
+    phase_row : (r : Request) (op : Op) (phase : Phase) (outcome : Outcome) → r.op ≡ op → m.phase ≡ phase → Misplaced r op phase outcome → So (Answers r outcome)
+    phase_row r op phase outcome is at (what, row) = subst (λ o. So (Answers r o)) (ap WrongPhase at ∙ what) (row_of r op (WrongPhase m.phase) is row)
+
+    prepare_row : (r : Request) → m.hand ≡ Empty → (phase : Phase) → m.phase ≡ phase → phase ≢ Trim → phase ≢ Arming → AnswerRow g m r Prepare (WrongPhase m.phase) []
+    prepare_row r empty phase at trim arming = inr (refl, inr (inr (inr (refl, empty, is_not phase Trim at trim, is_not phase Arming at arming, refl))))
+
+    commit_row : (r : Request) → m.hand ≡ Empty → (phase : Phase) → m.phase ≡ phase → phase ≢ Checkpoint → phase ≢ Deciding → AnswerRow g m r Commit (WrongPhase m.phase) []
+    commit_row r empty phase at checkpoint deciding = inr (refl, inr (inr (refl, empty, is_not phase Checkpoint at checkpoint, is_not phase Deciding at deciding, refl)))
 
     -- a command that has no place in this phase
     wrong : (r : Request) (op : Op) (phase : Phase) (outcome : Outcome) → taken m r op phase ≡ Answers r outcome → r.op ≡ op → m.phase ≡ phase → is_command op ≡ true → task_of g m Command ≡ Answers r outcome → So (Answers r outcome)
     wrong r Prepare Trim outcome is op phase command task =
         let what : outcome ≡ NoSpace 0 = few (nat_lt (count_of is_free m.kinds) 2) (picked m.kinds 1) (picked (without_picked m.kinds (picked m.kinds 1)) 1) is in
         let none : HasNoTwo m r = (prepare_space_is_exact g m r s).0 (task ∙ ap (Answers r) what) in
-        subst (λ o. So (Answers r o)) (sym what) (row_of r Prepare (NoSpace 0) op (refl, none, refl))
+        subst (λ o. So (Answers r o)) (sym what) (row_of r Prepare (NoSpace 0) op (inr (refl, inr (inr (inl (refl, none, refl))))))
       where
         few : (t : Bool) (c b : Option Extent) → cond t (Answers r (NoSpace 0)) (prepare_on m r c b) ≡ Answers r outcome → outcome ≡ NoSpace 0
         few true c b e = let same : NoSpace 0 ≡ outcome = cc e in sym same
@@ -219,14 +161,14 @@ module _ (g : Geometry) (m : Memory) where
         few false (Some c) None e = let same : NoSpace 0 ≡ outcome = cc e in sym same
         few false (Some c) (Some b) e = absurd (grind arith)
     wrong r Prepare Arming outcome is op phase command task = absurd (grind arith)
-    wrong r Prepare Checkpoint outcome is op phase command task = phase_row r Prepare Checkpoint outcome op (let same : WrongPhase Checkpoint ≡ outcome = cc is in same) (sym phase, is_not Checkpoint Trim phase (λ e. absurd (grind arith)), is_not Checkpoint Arming phase (λ e. absurd (grind arith)), refl)
-    wrong r Prepare Deciding outcome is op phase command task = phase_row r Prepare Deciding outcome op (let same : WrongPhase Deciding ≡ outcome = cc is in same) (sym phase, is_not Deciding Trim phase (λ e. absurd (grind arith)), is_not Deciding Arming phase (λ e. absurd (grind arith)), refl)
-    wrong r Prepare Committed outcome is op phase command task = phase_row r Prepare Committed outcome op (let same : WrongPhase Committed ≡ outcome = cc is in same) (sym phase, is_not Committed Trim phase (λ e. absurd (grind arith)), is_not Committed Arming phase (λ e. absurd (grind arith)), refl)
-    wrong r Commit Trim outcome is op phase command task = phase_row r Commit Trim outcome op (let same : WrongPhase Trim ≡ outcome = cc is in same) (sym phase, is_not Trim Checkpoint phase (λ e. absurd (grind arith)), is_not Trim Deciding phase (λ e. absurd (grind arith)), refl)
-    wrong r Commit Arming outcome is op phase command task = phase_row r Commit Arming outcome op (let same : WrongPhase Arming ≡ outcome = cc is in same) (sym phase, is_not Arming Checkpoint phase (λ e. absurd (grind arith)), is_not Arming Deciding phase (λ e. absurd (grind arith)), refl)
+    wrong r Prepare Checkpoint outcome is op phase command task = phase_row r Prepare Checkpoint outcome op phase (cc is, prepare_row r (command_answers g m r outcome task).0 Checkpoint phase (λ e. absurd (grind arith)) (λ e. absurd (grind arith)))
+    wrong r Prepare Deciding outcome is op phase command task = phase_row r Prepare Deciding outcome op phase (cc is, prepare_row r (command_answers g m r outcome task).0 Deciding phase (λ e. absurd (grind arith)) (λ e. absurd (grind arith)))
+    wrong r Prepare Committed outcome is op phase command task = phase_row r Prepare Committed outcome op phase (cc is, prepare_row r (command_answers g m r outcome task).0 Committed phase (λ e. absurd (grind arith)) (λ e. absurd (grind arith)))
+    wrong r Commit Trim outcome is op phase command task = phase_row r Commit Trim outcome op phase (cc is, commit_row r (command_answers g m r outcome task).0 Trim phase (λ e. absurd (grind arith)) (λ e. absurd (grind arith)))
+    wrong r Commit Arming outcome is op phase command task = phase_row r Commit Arming outcome op phase (cc is, commit_row r (command_answers g m r outcome task).0 Arming phase (λ e. absurd (grind arith)) (λ e. absurd (grind arith)))
     wrong r Commit Checkpoint outcome is op phase command task = absurd (grind arith)
     wrong r Commit Deciding outcome is op phase command task = absurd (grind arith)
-    wrong r Commit Committed outcome is op phase command task = phase_row r Commit Committed outcome op (let same : WrongPhase Committed ≡ outcome = cc is in same) (sym phase, is_not Committed Checkpoint phase (λ e. absurd (grind arith)), is_not Committed Deciding phase (λ e. absurd (grind arith)), refl)
+    wrong r Commit Committed outcome is op phase command task = phase_row r Commit Committed outcome op phase (cc is, commit_row r (command_answers g m r outcome task).0 Committed phase (λ e. absurd (grind arith)) (λ e. absurd (grind arith)))
     wrong r (Read e p) phase outcome is op at command task = absurd (false≢true command)
     wrong r (Write e p) phase outcome is op at command task = absurd (false≢true command)
     wrong r (Discard e) phase outcome is op at command task = absurd (false≢true command)
@@ -285,7 +227,7 @@ module _ (g : Geometry) (now : Contents) (m n : Memory) (phase : n.phase ≡ m.p
       let w = i.held.for_write.waits in
       let passed : refusal g m.phase (Write w.extent w.payload) ≡ None = ap (λ p. refusal g p (Write w.extent w.payload)) (sym phase) ∙ ap (refusal g n.phase) (sym w.op) ∙ w.passed in
       answer_told b.ticket w.write f.left fault_after (fault_events g) (batch_step g n b Failed) f.is f.requests w.waits
-      (subst (λ o. AnswerRow g m w.write o (DiskFault w.write.done) (Fails ((extent_of o).first + w.write.done) (block_at g.block_size (payload_of o) w.write.done) ∷ [])) (sym w.op) (passed, refl, w.left, refl))
+      (subst (λ o. AnswerRow g m w.write o (DiskFault w.write.done) (Fails ((extent_of o).first + w.write.done) (block_at g.block_size (payload_of o) w.write.done) ∷ [])) (sym w.op) (inr (passed, inr (inl (refl, w.left, refl)))))
   batch_told b is Succeeded can = let go = batch_goes g n b s (in_hand_of g n b is s) Succeeded can (reply_ok []).1 in subst (TellsSo g now m) (sym go.is) (inl refl, go.requests ∙ requests)
   batch_told b is (Gave v) can = let go = batch_goes g n b s (in_hand_of g n b is s) (Gave v) can (reply_ok v).0 in subst (TellsSo g now m) (sym go.is) (inl refl, go.requests ∙ requests)
 
@@ -305,7 +247,7 @@ module _ (g : Geometry) (now : Contents) (m n : Memory) (phase : n.phase ≡ m.p
 
     prepare_told : (act : PrepareAct) → act_in ≡ act → PrepareIsSound g n c b act → (reply : Reply) → CanHave g (call_of_prepare g n c b act) reply → TellsSo g now m (prepare_step now n t c b act reply)
     prepare_told act same h Failed can = answer_told t w.command (record n { hand = Empty }) (λ r. DiskFault 0) (λ r. []) (prepare_step now n t c b act Failed) refl refl w.waits
-        (subst (λ o. AnswerRow g m w.command o (DiskFault 0) []) (sym w.asks) (prepare_phase act h, refl, refl))
+        (subst (λ o. AnswerRow g m w.command o (DiskFault 0) []) (sym w.asks) (inr (refl, inr (inl (refl, prepare_phase act h, refl)))))
     prepare_told ReadsBlock0 same h Succeeded can = absurd can
     prepare_told ReadsBlock0 same h (Gave v) can = (inl refl, requests)
     prepare_told (WritesCurrent v) same h Succeeded can = (inl refl, requests)
@@ -317,7 +259,7 @@ module _ (g : Geometry) (now : Contents) (m n : Memory) (phase : n.phase ≡ m.p
     prepare_told WritesFirstLog same h Succeeded can = (inl refl, requests)
     prepare_told WritesFirstLog same h (Gave u) can = absurd can
     prepare_told FlushesFirstLog same h Succeeded can = answer_told t w.command (record n { phase = Checkpoint; hand = Empty; clean = true }) (λ r. Done) (λ r. Prepares ∷ []) (prepare_step now n t c b FlushesFirstLog Succeeded) refl refl w.waits
-        (subst (λ o. AnswerRow g m w.command o Done (Prepares ∷ [])) (sym w.asks) (in_phase Arming h, refl))
+        (subst (λ o. AnswerRow g m w.command o Done (Prepares ∷ [])) (sym w.asks) (inr (refl, inl (refl, in_phase Arming h, refl))))
     prepare_told FlushesFirstLog same h (Gave u) can = absurd can
 
   module _ (t : Ticket) (again_in : Bool) (act_in : CommitAct) (is : n.hand ≡ Committing t again_in act_in) (w : IsForCommand n.requests t Commit) where
@@ -330,16 +272,23 @@ module _ (g : Geometry) (now : Contents) (m n : Memory) (phase : n.phase ≡ m.p
         let here : n.hand ≡ Committing t false (WritesBlock0 v) = is ∙ ap (λ a. Committing t a act_in) first ∙ ap (Committing t false) same in
         was_in_hand IsDecidingAct (λ fresh. subst IsFresh here fresh) (subst IsDecidingAct (sym here) tt)
 
+    -- where a fault may come, with these events
+    abbrev FailsSo : List Event → Type 0
+    FailsSo happens = ((m.phase ≡ Checkpoint) × IsDecidingAct m.hand × (happens ≡ Decides ∷ [])) ⊎ (((m.phase ≡ Checkpoint) ⊎ (m.phase ≡ Deciding)) × (happens ≡ []))
+
+    failed_so : {happens : List Event} → FailsSo happens → AnswerRow g m w.command Commit (DiskFault 0) happens
+    failed_so so = inr (refl, inr (inl (refl, so)))
+
     -- a commit that fails tells of the decision where its write decides
     fault_row : (again : Bool) (act : CommitAct) → again_in ≡ again → act_in ≡ act → CommitIsSound g n again act → AnswerRow g m w.command Commit (DiskFault 0) (deciding_events again act)
-    fault_row true FlushesAll first same h = (refl, inr (found_phase true h, refl))
-    fault_row false FlushesAll first same h = (refl, inr (found_phase false h, refl))
-    fault_row true ReadsCurrent first same h = (refl, inr (found_phase true h, refl))
-    fault_row false ReadsCurrent first same h = (refl, inr (found_phase false h, refl))
-    fault_row true (WritesBlock0 v) first same h = (refl, inr (found_phase true h.0, refl))
-    fault_row false (WritesBlock0 v) first same h = (refl, inl (in_phase Checkpoint h.0, deciding_act v first same, refl))
-    fault_row true FlushesDecision first same h = (refl, inr (inr (in_phase Deciding h), refl))
-    fault_row false FlushesDecision first same h = (refl, inr (inr (in_phase Deciding h), refl))
+    fault_row true FlushesAll first same h = failed_so (inr (found_phase true h, refl))
+    fault_row false FlushesAll first same h = failed_so (inr (found_phase false h, refl))
+    fault_row true ReadsCurrent first same h = failed_so (inr (found_phase true h, refl))
+    fault_row false ReadsCurrent first same h = failed_so (inr (found_phase false h, refl))
+    fault_row true (WritesBlock0 v) first same h = failed_so (inr (found_phase true h.0, refl))
+    fault_row false (WritesBlock0 v) first same h = failed_so (inl (in_phase Checkpoint h.0, deciding_act v first same, refl))
+    fault_row true FlushesDecision first same h = failed_so (inr (inr (in_phase Deciding h), refl))
+    fault_row false FlushesDecision first same h = failed_so (inr (inr (in_phase Deciding h), refl))
 
     moved_row : (again : Bool) (act : CommitAct) → again_in ≡ again → act_in ≡ act → CommitIsSound g n again act → MovedRow now m (deciding_events again act)
     moved_row true FlushesAll first same h = inl refl
@@ -351,9 +300,10 @@ module _ (g : Geometry) (now : Contents) (m n : Memory) (phase : n.phase ≡ m.p
     moved_row true FlushesDecision first same h = inl refl
     moved_row false FlushesDecision first same h = inl refl
 
-    committed_row : (again : Bool) → (committing_events again ≡ Commits ∷ []) ⊎ (committing_events again ≡ Flushes ∷ Commits ∷ [])
-    committed_row false = inl refl
-    committed_row true = inr refl
+    ends_now : (again : Bool) → again_in ≡ again → act_in ≡ FlushesDecision → EndsCommit m.hand (committing_events again)
+    ends_now again first same =
+        let here : n.hand ≡ Committing t again FlushesDecision = is ∙ ap (λ a. Committing t a act_in) first ∙ ap (Committing t again) same in
+        was_in_hand (λ hand. EndsCommit hand (committing_events again)) (λ fresh. subst IsFresh here fresh) (subst (λ hand. EndsCommit hand (committing_events again)) (sym here) refl)
 
     failed_requests : (act : CommitAct) → (commit_failed n act).requests ≡ n.requests
     failed_requests FlushesAll = refl
@@ -371,7 +321,7 @@ module _ (g : Geometry) (now : Contents) (m n : Memory) (phase : n.phase ≡ m.p
     commit_told again (WritesBlock0 v) first same h Succeeded can = (moved_row again (WritesBlock0 v) first same h, requests)
     commit_told again (WritesBlock0 v) first same h (Gave u) can = absurd can
     commit_told again FlushesDecision first same h Succeeded can = answer_told t w.command (released n) (λ r. Done) (λ r. committing_events again) (commit_step n t again FlushesDecision Succeeded) refl refl w.waits
-        (subst (λ o. AnswerRow g m w.command o Done (committing_events again)) (sym w.asks) (in_phase Deciding h, committed_row again))
+        (subst (λ o. AnswerRow g m w.command o Done (committing_events again)) (sym w.asks) (inr (refl, inl (refl, in_phase Deciding h, ends_now again first same))))
     commit_told again FlushesDecision first same h (Gave u) can = absurd can
 
   act_told : (hand : Hand) → n.hand ≡ hand → is_busy hand ≡ true → (reply : Reply) → CanHaveIt g (call_in_hand g n hand) reply → TellsSo g now m (act_step g now n hand reply)
@@ -392,20 +342,20 @@ module _ (g : Geometry) (m : Memory) (now : Contents) (s : MemoryIsSound g m) wh
   task_told : (task : Task) → TaskIsSound g m task → AnswersSo g m task → (reply : Reply) → CanHaveIt g (call_of g m task) reply → TellsSo g now m (step_of g now m task reply)
   task_told Waits is so reply can = (refl, refl)
   task_told (Answers r outcome) is so reply can = (r, is.request.found, (refl, so, refl))
-  task_told (WritesBlock r b) is so Succeeded can = (r, is.request.found, record { extent = is.extent; payload = is.payload; op = is.op; passed = is.passed; next = refl; left = is.left; happens = write_event r b is.extent is.payload is.op is.block; goes_on = refl })
+  task_told (WritesBlock r b) is so Succeeded can = (r, is.request.found, record { extent = is.extent; payload = is.payload; op = is.op; passed = is.passed; first = is.first; next = refl; left = is.left; happens = write_event r b is.extent is.payload is.op is.block; goes_on = refl })
   task_told (WritesBlock r b) is so Failed can =
       let passed : refusal g m.phase (Write is.extent is.payload) ≡ None = ap (refusal g m.phase) (sym is.op) ∙ is.passed in
-      (r, is.request.found, (refl, subst (λ o. AnswerRow g m r o (DiskFault r.done) (Fails ((extent_of o).first + r.done) (block_at g.block_size (payload_of o) r.done) ∷ [])) (sym is.op) (passed, refl, is.left, refl), refl))
+      (r, is.request.found, (refl, subst (λ o. AnswerRow g m r o (DiskFault r.done) (Fails ((extent_of o).first + r.done) (block_at g.block_size (payload_of o) r.done) ∷ [])) (sym is.op) (inr (passed, inr (inl (refl, is.left, refl)))), refl))
   task_told (WritesBlock r b) is so (Gave v) can = absurd can
-  task_told (ReadsBlock r b) is so (Gave v) can = (r, is.request.found, record { extent = is.extent; payload = is.payload; op = is.op; passed = is.passed; next = refl; left = is.left; content = v; happens = ap (λ x. Reads x v ∷ []) is.block; goes_on = ap (λ o. with_request (record r { op = with_read g.block_size o r.done v; done = r.done + 1 }) m.requests) is.op })
+  task_told (ReadsBlock r b) is so (Gave v) can = (r, is.request.found, record { extent = is.extent; payload = is.payload; op = is.op; passed = is.passed; next = refl; left = is.left; content = v; whole = can; happens = ap (λ x. Reads x v ∷ []) is.block; goes_on = ap (λ o. with_request (record r { op = with_read g.block_size o r.done v; done = r.done + 1 }) m.requests) is.op })
   task_told (ReadsBlock r b) is so Failed can =
       let passed : refusal g m.phase (Read is.extent is.payload) ≡ None = ap (refusal g m.phase) (sym is.op) ∙ is.passed in
-      (r, is.request.found, (refl, subst (λ o. AnswerRow g m r o (DiskFault r.done) []) (sym is.op) (passed, refl, is.left, refl), refl))
+      (r, is.request.found, (refl, subst (λ o. AnswerRow g m r o (DiskFault r.done) []) (sym is.op) (inr (passed, inr (refl, is.left, refl))), refl))
   task_told (ReadsBlock r b) is so Succeeded can = absurd can
-  task_told (FlushesFor r) is so Succeeded can = (r, is.request.found, (refl, subst (λ o. AnswerRow g m r o Done (Flushes ∷ [])) (sym is.op) (is.passed, refl), refl))
-  task_told (FlushesFor r) is so Failed can = (r, is.request.found, (refl, subst (λ o. AnswerRow g m r o (DiskFault 0) []) (sym is.op) (is.passed, refl, refl), refl))
+  task_told (FlushesFor r) is so Succeeded can = (r, is.request.found, (refl, subst (λ o. AnswerRow g m r o Done (Flushes ∷ [])) (sym is.op) (inr (is.passed, inl (refl, refl))), refl))
+  task_told (FlushesFor r) is so Failed can = (r, is.request.found, (refl, subst (λ o. AnswerRow g m r o (DiskFault 0) []) (sym is.op) (inr (is.passed, inr (refl, refl))), refl))
   task_told (FlushesFor r) is so (Gave v) can = absurd can
-  task_told (DiscardsFor r) is so reply can = (r, is.request.found, (refl, subst (λ o. AnswerRow g m r o Done (Discards (extent_of o) ∷ [])) (sym is.op) (is.passed, refl), refl))
+  task_told (DiscardsFor r) is so reply can = (r, is.request.found, (refl, subst (λ o. AnswerRow g m r o Done (Discards (extent_of o) ∷ [])) (sym is.op) (inr (is.passed, (refl, refl))), refl))
   task_told (Acts n) is so reply can = act_told g now m n is.phase is.requests (begun_of n is) is.sound n.hand refl is.busy reply can
 
 pub steps_tell_so : StepsTellSo

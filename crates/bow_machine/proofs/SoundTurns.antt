@@ -1,5 +1,5 @@
 -- The tasks of the worker's and the commands' turns over sound memory: what is formed or taken in hand is sound, and less is left.
-use Rattle.std.proofs.Common.{ℕ, ◌+◌, ◌-◌, ◌*◌, ◌<◌, ◌≤◌, ◌≡◌, ◌⊎◌, ◌==◌, min, nat_lt, Bool, true, false, not, cond, List, [], ◌∷◌, length, Option, Some, None, arith, refl, sym, ap, ◌∙◌, subst, inl, inr}
+use Rattle.std.proofs.Common.{ℕ, ◌+◌, ◌-◌, ◌*◌, ◌<◌, ◌≤◌, ◌≡◌, ◌==◌, nat_lt, Bool, true, false, not, cond, List, [], ◌∷◌, length, Option, Some, None, arith, refl, sym, ap, ◌∙◌, subst, inl, inr}
 use Rattle.std.proofs.lemmas.Bool.{cond_both, not-false, not-true, eqb-true, eqb-false, false≢true}
 use Rattle.std.specs.Prelude.{MatchOption}
 use Rattle.std.specs.List.{AllByRecursion as Each, count_by}
@@ -12,7 +12,7 @@ use Rattle.bow_units.specs.declared.requests.Phase.TheVariants.{Trim, Arming, Ch
 use Rattle.bow_units.specs.declared.requests.Outcome.{Outcome}
 use Rattle.bow_units.specs.declared.requests.Outcome.TheVariants as outcomes
 use Rattle.bow_units.specs.declared.statuses.Kind.{Kind}
-use Rattle.bow_units.specs.declared.statuses.Kind.TheVariants.{Unchanged, Free, Backup, Saved}
+use Rattle.bow_units.specs.declared.statuses.Kind.TheVariants.{Free, Backup, Saved}
 use Rattle.bow_log.specs.Generations.{Generation, room}
 use Rattle.bow_copy.specs.declared.jobs.Job.{Job}
 use Rattle.bow_copy.specs.declared.jobs.Job.TheVariants.{Rewrite, Link, Move}
@@ -30,16 +30,36 @@ use Rattle.bow_machine.specs.MemoryIsSound.{is_touched}
 use Rattle.bow_machine.specs.MemoryIsSound.{LogIsSound, LogIsHeld, JobIsReady, SavesNext, IsForCommand, HandIsSound, MemoryIsSound}
 use Rattle.bow_machine.proofs.Tickets.{found_own}
 use Rattle.bow_machine.proofs.Mapped.{empty_not_in_hand}
-use Rattle.bow_machine.proofs.Tables.{holds_cases, kind_in}
+use Rattle.bow_machine.proofs.Tables.{holds_cases}
 use Rattle.bow_machine.proofs.BatchStands.{working, holds_none}
 use Rattle.bow_machine.proofs.Workers.{memory_is}
 use Rattle.bow_machine.proofs.Commands.{picked_free, picked_more}
 use Rattle.bow_machine.proofs.FormedHeads.{IsHead, head_is, IsFreeRun, free_run, not_picked, kept_not_free}
-use Rattle.bow_machine.proofs.FormedBatches.{source_kind, is_one, kept_kinds, current_kind, alike_most, alike_some, alike_at, runs_apart, source_not_free}
+use Rattle.bow_machine.proofs.FormedJobs.{one_picked, move_ready, link_ready, next_source, copied_some, copied_most, copy_ready}
 use Rattle.bow_machine.proofs.SoundLists.{own_tickets, found_counts}
+use Rattle.bow_machine.specs.Ends.{left_in}
+use Rattle.bow_machine.proofs.Less.{IsLess}
 use Rattle.bow_machine.proofs.SoundTasks.{IsApart, IsFresh, is_busy, ActsOn, TaskIsSound, map_sound}
 use Rattle.bow_machine.proofs.SoundLogs.{spelling_length, respared, spare_table, spare_free, spare_log}
 use Rattle.bow_machine.proofs.SoundBatches.{worked_sound}
+
+-- something is taken in hand that reserves nothing, and nothing else changes
+only_hand : (g : Geometry) (m : Memory) (hand : Hand) → MemoryIsSound g (record m { hand = hand }) → is_busy hand ≡ true → ((x : ℕ) → holds (reserved hand) x ≡ false)
+    → IsLess (left_in (record m { hand = hand })) (left_in m) → IsFresh hand → ActsOn g m (record m { hand = hand })
+only_hand g m hand sound busy none less fresh = record {
+  sound = sound;
+  busy = busy;
+  requests = refl;
+  phase = refl;
+  log = refl;
+  table = inr refl;
+  saved = λ x is. is;
+  still_saved = λ x is. is;
+  touched = λ x is. is;
+  stays = λ x is. refl;
+  picked = λ x is. absurd (false≢true (sym (none x) ∙ is));
+  less = inr (less, fresh);
+}
 
 -- ----------------------------------------------------------------------------------------------------------------
 -- A batch is formed.
@@ -80,20 +100,8 @@ module _ (g : Geometry) (m : Memory) (log : Generation) (r : Request) (e : Exten
       }) s
 
   rewrites : m.clean ≡ false → ActsOn g n (with_batch n (batch_for r Rewrite []))
-  rewrites unclean = record {
-    sound = forms m.kinds Rewrite [] s.table kept refl tt tt unclean;
-    busy = refl;
-    requests = refl;
-    phase = refl;
-    log = refl;
-    table = inr refl;
-    saved = λ x is. is;
-    still_saved = λ x is. is;
-    touched = λ x is. is;
-    stays = λ x is. refl;
-    picked = λ x is. absurd (false≢true (sym (holds_none x) ∙ is));
-    less = inr (inr (refl, inr (refl, inr (refl, inr (refl, subst (λ clean. 2 < cond clean 0 3) (sym unclean) (omega arith))))), refl);
-  }
+  rewrites unclean = only_hand g n (Batching (batch_for r Rewrite [])) (forms m.kinds Rewrite [] s.table kept refl tt tt unclean) refl holds_none
+      (inr (refl, inr (refl, inr (refl, inr (refl, subst (λ clean. 2 < cond clean 0 3) (sym unclean) (omega arith)))))) refl
 
   -- each block that was picked was free
   free_in : (d : Extent) → IsFreeRun g m.kinds d → (x : ℕ) → holds d x ≡ true → kind_at m.kinds x ≡ Free
@@ -141,64 +149,26 @@ module _ (g : Geometry) (m : Memory) (log : Generation) (r : Request) (e : Exten
       none : 0 ≡ 0 + d.count * 0
       none = omega arith
 
-  one_picked : (d : Extent) → IsPicked m.kinds 1 d → record { first = d.first; count = 1 } ≡ d
-  one_picked d is = let one : 1 ≡ d.count = omega (arith, is.some, is.most) in ap (λ n. let x : Extent = record { first = d.first; count = n } in x) one
-
-  taken_kind : (d : Extent) → IsFreeRun g m.kinds d → (j : ℕ) → j < d.count → kind_at (with_kind m.kinds d Backup) (d.first + j) ≡ Backup
-  taken_kind d run j below = kind_in m.kinds d Backup (d.first + j) (omega (arith, run.inside, s.table.size)) (omega arith) (omega (arith, below))
-
-  taken_first : (d : Extent) → IsFreeRun g m.kinds d → kind_at (with_kind m.kinds d Backup) d.first ≡ Backup
-  taken_first d run = kind_in m.kinds d Backup d.first (omega (arith, run.inside, s.table.size)) (omega arith) (omega (arith, run.some))
-
   moves : m.clean ≡ true → is_kind_current (kind_at m.kinds next) ≡ true → (d : Extent) → IsPicked m.kinds 1 d
       → ActsOn g n (record n { kinds = with_kind m.kinds d Backup; hand = Batching (batch_for r (Move next d.first) []) })
   moves clean is d picked =
       let run = free_run g m.kinds 1 d s.table.size picked in
-      picks_for (Move next d.first) [] d run (one_picked d picked) tt refl
-      (record { from_current = kept.only_current next next_inside (current_kind _ is); inside = omega (arith, run.inside, run.some); kind = taken_first d run; buffer = refl }, clean)
+      picks_for (Move next d.first) [] d run (one_picked g m log r e p head s.table kept d picked) tt refl (move_ready g m log r e p head s.table kept is d run, clean)
 
   links : m.clean ≡ true → length log.entries ≡ room g.block_size → (d : Extent) → IsPicked m.kinds 1 d
       → ActsOn g n (record n { kinds = with_kind m.kinds d Backup; hand = Batching (batch_for r (Link d.first) (spelling g log ∷ [])) })
   links clean full d picked =
       let run = free_run g m.kinds 1 d s.table.size picked in
-      picks_for (Link d.first) (spelling g log ∷ []) d run (one_picked d picked) (spelling_length g log s.sizes kept.generation.few, tt) tt
-      (record { inside = omega (arith, run.inside, run.some); kind = taken_first d run; full = full; buffer = refl }, clean)
+      picks_for (Link d.first) (spelling g log ∷ []) d run (one_picked g m log r e p head s.table kept d picked) (spelling_length g log s.sizes kept.generation.few, tt) tt (link_ready g m log r e p head s.table kept full d run, clean)
 
   abbrev pub copied : Extent
   copied = copied_from n r e
 
-  pub next_source : m.clean ≡ true → is_kind_current (kind_at m.kinds next) ≡ false → (kind_at m.kinds next ≡ Unchanged) ⊎ (kind_at m.kinds next ≡ Backup)
-  next_source clean other = kept_kinds _ head.kept_back (λ is. head.not_0 (s.table.only_0 next next_inside is)) other (kept.none_saved clean next next_inside)
-
-  pub copied_some : (kind_at m.kinds next ≡ Unchanged) ⊎ (kind_at m.kinds next ≡ Backup) → 1 ≤ copied.count
-  copied_some h = alike_some m.kinds (kind_at m.kinds next) next (min 8 (e.count - r.done)) (omega (arith, head.left)) (is_one _ h)
-
   copies : m.clean ≡ true → (length log.entries ≡ room g.block_size → ⊥) → (d : Extent) → IsPicked m.kinds copied.count d
       → ActsOn g n (record n { kinds = with_kind m.kinds d Backup; hand = Batching (batch_for r (copy_onto copied d) []) })
   copies clean not_full d picked =
-      picks_for (copy_onto copied d) [] d run refl tt (refl, omega (arith, picked.most, most, head.left)) (
-        record {
-          some = run.some;
-          few = omega (arith, picked.most, most);
-          not_full = omega (arith, kept.generation.few, not_full);
-          source_inside = omega (arith, picked.most, most, head.inside, head.left);
-          dest_inside = run.inside;
-          sources = λ j below. subst (λ k. (k ≡ Unchanged) ⊎ (k ≡ Backup)) (sym (not_picked g m.kinds d (next + j) s.table.size run (source_not_free _ (sources j below)))) (sources j below);
-          dests = taken_kind d run;
-          apart = runs_apart m.kinds next d.first d.count (λ j below. source_not_free _ (sources j below)) run.free;
-          buffer = omega arith;
-        },
-        clean,
-      )
-    where
-      run : IsFreeRun g m.kinds d
-      run = free_run g m.kinds copied.count d s.table.size picked
-
-      most : copied.count ≤ min 8 (e.count - r.done)
-      most = alike_most m.kinds (kind_at m.kinds next) next (min 8 (e.count - r.done))
-
-      sources : (j : ℕ) → j < d.count → (kind_at m.kinds (next + j) ≡ Unchanged) ⊎ (kind_at m.kinds (next + j) ≡ Backup)
-      sources j below = source_kind _ _ (alike_at m.kinds (kind_at m.kinds next) (min 8 (e.count - r.done)) next j (omega (arith, below, picked.most)))
+      picks_for (copy_onto copied d) [] d (free_run g m.kinds copied.count d s.table.size picked) refl tt (refl, omega (arith, picked.most, copied_most g m log r e p head s.table kept, head.left))
+      (copy_ready g m log r e p head s.table kept not_full d picked, clean)
 
   -- the batch, or the answer that there is no space for it
   on_picked_sound : (batch : Extent → Batch) (want : ℕ) → 1 ≤ want → ((d : Extent) → IsPicked m.kinds want d → ActsOn g n (record n { kinds = with_kind m.kinds d Backup; hand = Batching (batch d) }))
@@ -217,7 +187,7 @@ module _ (g : Geometry) (m : Memory) (log : Generation) (r : Request) (e : Exten
       (λ current. on_picked_sound (λ to. batch_for r (Move next to.first) []) 1 (omega arith) (moves clean current))
       (λ other. cond_both (length log.entries == room g.block_size) _ _ Good
       (λ full. on_picked_sound (λ dest. batch_for r (Link dest.first) (spelling g log ∷ [])) 1 (omega arith) (links clean (eqb-true _ _ full)))
-      (λ not_full. on_picked_sound (λ dest. batch_for r (copy_onto copied dest) []) copied.count (copied_some (next_source clean other)) (copies clean (eqb-false _ _ not_full)))))
+      (λ not_full. on_picked_sound (λ dest. batch_for r (copy_onto copied dest) []) copied.count (copied_some g m log r e p head s.table kept (next_source g m log r e p head s.table kept clean other)) (copies clean (eqb-false _ _ not_full)))))
     where
       Good : Task → Type 0
       Good task = TaskIsSound g n task
@@ -272,34 +242,24 @@ module _ (g : Geometry) (m : Memory) (s : MemoryIsSound g m) (empty : m.hand ≡
   asks_for op is = record { command = r; waits = first_waits; asks = is }
 
   takes : (hand : Hand) → (reserved hand).count ≡ 0 → has_command hand ≡ true → is_busy hand ≡ true → IsFresh hand → HandIsSound g (record m { hand = hand }) hand m.log → ActsOn g m (record m { hand = hand })
-  takes hand none command busy fresh held = record {
-    sound = record {
-      sizes = s.sizes;
-      table = s.table;
-      few = s.few;
-      requests = s.requests;
-      rising = s.rising;
-      log = subst (λ n. LogIsHeld g m.kinds m.clean m.trimmed n m.phase m.log) (ap (λ (h : Hand). (reserved h).count) empty ∙ sym none) s.log;
-      in_hand = held;
-    };
-    busy = busy;
-    requests = refl;
-    phase = refl;
-    log = refl;
-    table = inr refl;
-    saved = λ x is. is;
-    still_saved = λ x is. is;
-    touched = λ x is. is;
-    stays = λ x is. refl;
-    picked = λ x held. absurd (none_held hand command x held);
-    less = inr (inr (refl, inl fewer), fresh);
-  }
+  takes hand none command busy fresh held = only_hand g m hand sound busy (none_held hand command) (inr (refl, inl fewer)) fresh
     where
-      none_held : (h : Hand) → has_command h ≡ true → (x : ℕ) → holds (reserved h) x ≡ true → ⊥
-      none_held Empty is x held = false≢true (sym (holds_none x) ∙ held)
-      none_held (Batching b) is x held = absurd (grind arith)
-      none_held (Preparing t c b act) is x held = false≢true (sym (holds_none x) ∙ held)
-      none_held (Committing t again act) is x held = false≢true (sym (holds_none x) ∙ held)
+      sound : MemoryIsSound g (record m { hand = hand })
+      sound = record {
+        sizes = s.sizes;
+        table = s.table;
+        few = s.few;
+        requests = s.requests;
+        rising = s.rising;
+        log = subst (λ n. LogIsHeld g m.kinds m.clean m.trimmed n m.phase m.log) (ap (λ (h : Hand). (reserved h).count) empty ∙ sym none) s.log;
+        in_hand = held;
+      }
+
+      none_held : (h : Hand) → has_command h ≡ true → (x : ℕ) → holds (reserved h) x ≡ false
+      none_held Empty is x = holds_none x
+      none_held (Batching b) is x = absurd (grind arith)
+      none_held (Preparing t c b act) is x = holds_none x
+      none_held (Committing t again act) is x = holds_none x
 
       fewer : count_by (λ q. is_command q.op) m.requests - cond (has_command hand) 1 0 < count_by (λ q. is_command q.op) m.requests - cond (has_command m.hand) 1 0
       fewer =

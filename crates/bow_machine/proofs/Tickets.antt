@@ -3,10 +3,10 @@ use Rattle.std.proofs.Common.{◌≡◌, ◌≢◌, Bool, true, false, not, cond
 use Rattle.std.specs.Prelude.{find}
 use Rattle.std.proofs.lemmas.Bool.{cases_Bool}
 use Rattle.bow_queue.specs.declared.tickets.Ticket.{Ticket}
-use Rattle.bow_queue.specs.Requests.{same_ticket, is_command}
+use Rattle.bow_queue.specs.Requests.{same_ticket}
 use Rattle.bow_machine.specs.Requests.{Request, request_of, without_request, with_request}
-use Rattle.bow_machine.proofs.Held.{OwnTickets, ForCommand}
-use Rattle.bow_machine.proofs.RequestLists.{same_itself, same_is, is_same, differs, ticket_cases, gone_without, of_without, of_with_other, of_push_found}
+use Rattle.bow_machine.proofs.Held.{OwnTickets}
+use Rattle.bow_machine.proofs.RequestLists.{same_itself, same_is, is_same, differs, ticket_cases, gone_without, of_without}
 
 -- what is found is the request of its ticket
 pub found_own : (p : Request → Bool) (requests : List Request) (r : Request) → OwnTickets requests → find p requests ≡ Some r → request_of r.ticket requests ≡ Some r
@@ -66,24 +66,3 @@ own_push r (x ∷ xs) none own = elim (cases_Bool (same_ticket x.ticket r.ticket
   | inl here ↦ let clash : Some x ≡ None = rw here at none in absurd (grind arith)
   | inr past ↦ (none_push r x.ticket xs (λ e. let clash : true ≡ false = sym (is_same x.ticket r.ticket (sym e)) ∙ past in absurd (grind arith)) own.0, own_push r xs (rw past at none) own.1)
 ]
-
--- ----------------------------------------------------------------------------------------------------------------
--- The command in hand waits on.
-
-pub command_without : (s t : Ticket) (requests : List Request) → t ≢ s → ForCommand requests t → ForCommand (without_request s requests) t
-command_without s t requests ne h = record { command = h.command; waits = of_without s t requests ne ∙ h.waits; is_one = h.is_one }
-
--- a request that is no command goes on
-pub command_with : (r : Request) (t : Ticket) (requests : List Request) → t ≢ r.ticket → ForCommand requests t → ForCommand (with_request r requests) t
-command_with r t requests ne h = record { command = h.command; waits = of_with_other r t requests ne ∙ h.waits; is_one = h.is_one }
-
-pub command_push : (r : Request) (t : Ticket) (requests : List Request) → ForCommand requests t → ForCommand (requests ++ r ∷ []) t
-command_push r t requests h = record { command = h.command; waits = of_push_found r t requests h.command h.waits; is_one = h.is_one }
-
--- a request that waits, and is no command, is another one
-pub no_command : (r : Request) (t : Ticket) (requests : List Request) → request_of r.ticket requests ≡ Some r → is_command r.op ≡ false → ForCommand requests t → t ≢ r.ticket
-no_command r t requests found other h is =
-    let same : Some h.command ≡ Some r = sym h.waits ∙ ap (λ u. request_of u requests) is ∙ found in
-    let e : h.command ≡ r = cc same in
-    let clash : true ≡ false = sym h.is_one ∙ ap (λ q. is_command q.op) e ∙ other in
-    absurd (grind arith)

@@ -54,7 +54,7 @@ module _ (g : Geometry) where
             → Stays (working m Empty log) (serve g (working m Empty log) found)
         go None none = waits_stays (working m Empty log) s
         go (Some r) found =
-            let is = head_is g m log r w.tickets found in
+            let is = head_is g m log r w.memory.tickets found in
             subst (λ op. Stays (working m Empty log) (formed_for g (working m Empty log) r op (Some log)))
             (sym (is.2).op) (formed_keeps g m log f now may r is.0 is.1 is.2 w new_now new_may reply)
 

@@ -2,7 +2,7 @@
 -- is put into block 0, it stands as after a commit.
 use Rattle.std.specs.Prelude.{ℕ, ◌<◌, ◌≡◌, ◌⊎◌, List, [], ◌∷◌, ◌++◌, slice_index_or, Option, Some, None, Contains}
 use Rattle.bow_units.specs.declared.sizes.Geometry.{Geometry}
-use Rattle.bow_units.specs.Magics.{HasMagic}
+use Rattle.bow_units.specs.Magics.{HasMagic, IsPlain}
 use Rattle.bow_units.specs.Sizes.{IsValid}
 use Rattle.bow_units.specs.declared.requests.Phase.{Phase}
 use Rattle.bow_units.specs.declared.requests.Phase.TheVariants.{Arming, Checkpoint, Deciding}
@@ -12,7 +12,6 @@ use Rattle.bow_log.specs.Generations.{Generation}
 use Rattle.bow_chain.specs.Contents.{Contents, contents_of}
 use Rattle.bow_chain.specs.Sound.{log_in}
 use Rattle.bow_flat.specs.Flat.{Flat, May, opening}
-use Rattle.bow_flat.specs.Valid.{HasNoMagic}
 use Rattle.bow_guard.specs.Cuts.{Candidates, IsCut}
 use Rattle.bow_guard.specs.Standing.{Ahead}
 use Rattle.bow_ranges.specs.Kinds.{kind_at}
@@ -62,7 +61,7 @@ IsBytes block = (i : ℕ) → slice_index_or block i 0 < 256
 
 -- A machine that was opened on a disk that is settled on an image with no magic in block 0 is led.
 abbrev pub OpeningIsLed : Type 0
-OpeningIsLed = (g : Geometry) (image : List (List ℕ)) → IsValid g → HasNoMagic (contents_of image 0)
+OpeningIsLed = (g : Geometry) (image : List (List ℕ)) → IsValid g → IsPlain (contents_of image 0)
     → IsLed g (opened g.blocks) (contents_of image) (λ b. contents_of image b ∷ []) (opening image)
 
 -- So is one that takes in a request.

@@ -1,10 +1,9 @@
 -- What follows from what the machine stands for: exact room, picks, the log in memory, the cuts of a step, idle turns.
-use Rattle.std.specs.Prelude.{ℕ, ◌<◌, ◌≡◌, true, false, List, ◌∷◌, Some, Contains}
+use Rattle.std.specs.Prelude.{ℕ, ◌≡◌, false, List, Some, Contains}
 use Rattle.bow_units.specs.declared.sizes.Geometry.{Geometry}
 use Rattle.bow_units.specs.declared.requests.Phase.TheVariants.{Checkpoint}
 use Rattle.bow_log.specs.Generations.{Generation}
 use Rattle.bow_chain.specs.Contents.{Contents, with_block}
-use Rattle.bow_chain.specs.Places.{pass, base}
 use Rattle.bow_chain.specs.Sound.{log_in, StandsBehind}
 use Rattle.bow_chain.specs.Counting.{AtPlaces}
 use Rattle.bow_chain.specs.Kept.{Keeps}

@@ -7,7 +7,7 @@ use Rattle.bow_units.specs.declared.requests.Phase.TheVariants.{Trim}
 use Rattle.bow_units.specs.declared.statuses.Kind.TheVariants.{Sector0, Unchanged}
 use Rattle.bow_chain.specs.Contents.{Contents, contents_of}
 use Rattle.bow_flat.specs.Flat.{Flat, Event, Allows, after, opening}
-use Rattle.bow_flat.specs.Valid.{HasNoMagic}
+use Rattle.bow_units.specs.Magics.{IsPlain}
 use Rattle.bow_guard.specs.Cuts.{Candidates, IsCut}
 use Rattle.bow_guard.specs.Standing.{StandsFor}
 use Rattle.bow_machine.specs.Requests.{Request}
@@ -59,7 +59,7 @@ opened blocks = record {
 -- that image.
 abbrev pub OpeningStands : Type 0
 OpeningStands = (g : Geometry) (image : List (List ℕ)) → IsValid g → HasBlocks g (contents_of image)
-    → HasNoMagic (contents_of image 0)
+    → IsPlain (contents_of image 0)
     → IsStanding g (opened g.blocks) (contents_of image) (λ b. contents_of image b ∷ []) (opening image)
 
 -- A request that may be taken in, none of whose blocks is done, changes nothing else.

@@ -1,5 +1,5 @@
 -- The tests that each request has to pass. The requests that wait are the queue's.
-use Rattle.std.specs.Prelude.{ℕ, ◌+◌, ◌*◌, ◌==◌, ◌&&◌, ◌||◌, Bool, true, false, not, if◌then◌else◌, List, [], ◌∷◌, ◌++◌, take, drop, map, filter, find, Option, Some, None}
+use Rattle.std.specs.Prelude.{ℕ, ◌==◌, ◌&&◌, ◌||◌, Bool, true, false, if◌then◌else◌, List, [], ◌∷◌, Option, Some, None}
 use Rattle.bow_units.specs.declared.sizes.Geometry.{Geometry}
 use Rattle.bow_units.specs.declared.sizes.Extent.{Extent}
 use Rattle.bow_units.specs.declared.requests.Op.{Op}
@@ -9,9 +9,7 @@ use Rattle.bow_units.specs.declared.requests.Phase.TheVariants.{Trim, Arming, Ch
 use Rattle.bow_units.specs.declared.requests.Outcome.{Outcome}
 use Rattle.bow_units.specs.declared.requests.Outcome.TheVariants.{OutOfRange, ReservedMagic, Unsettled}
 use Rattle.bow_units.specs.Magics.{log_magic, restoring_magic}
-use Rattle.bow_queue.specs.declared.tickets.Ticket.{Ticket}
 use Rattle.bow_queue.specs.Extents.{is_on_device}
-use Rattle.bow_queue.specs.Requests.{same_ticket}
 pub use Rattle.bow_queue.specs.declared.requests.Request.{Request}
 pub use Rattle.bow_queue.specs.Requests.{request_of, without_request, with_request, filled, payload_of, with_read, first_of}
 

@@ -29,7 +29,7 @@ use Rattle.bow_queue.specs.declared.tickets.Ticket.{Ticket}
 use Rattle.bow_queue.specs.Requests.{open_writes}
 pub use Rattle.bow_queue.specs.Requests.{payload_of, with_read}
 use Rattle.bow_ranges.specs.Kinds.{with_kind, reclaimed, is_free, count_of}
-use Rattle.bow_machine.specs.Requests.{Request, request_of, without_request, with_request, filled}
+use Rattle.bow_machine.specs.Requests.{Request, request_of, without_request, with_request}
 use Rattle.bow_machine.specs.Memory.{Memory, Batch, Hand, Empty, Batching, Preparing, Committing, PrepareAct, ReadsBlock0, WritesCurrent, WritesBackup, FlushesCopies, WritesFirstLog, FlushesFirstLog, CommitAct, FlushesAll, ReadsCurrent, WritesBlock0, FlushesDecision, picks, place_of, kinds_written}
 use Rattle.bow_machine.specs.Calls.{Call, ReadCall, WriteCall, FlushCall, Reply, Failed, Succeeded, Gave}
 use Rattle.bow_machine.specs.Tasks.{Task, Waits, Answers, WritesBlock, ReadsBlock, FlushesFor, DiscardsFor, Acts, spelling}

@@ -19,27 +19,6 @@ use Rattle.bow_machine.specs.Steps.{call_of, step_of}
 use Rattle.bow_machine.specs.MemoryIsSound.{MemoryIsSound, is_touched}
 use Rattle.bow_machine.specs.MemoryLaws.{CanHaveIt}
 
--- a batch is in hand, and the block is one that is left to do of the write for which it was formed, which still waits
-pub record IsNextOf (g : Geometry) (m : Memory) (b : ℕ) : Type 0 where
-  pub batch : Batch
-  pub in_hand : m.hand ≡ Batching batch
-  pub begun : 0 < batch.progress.done
-  pub write : Request
-  pub waits : request_of batch.ticket m.requests ≡ Some write
-  pub extent : Extent
-  pub payload : List ℕ
-  pub op : write.op ≡ Write extent payload
-  pub passed : refusal g m.phase write.op ≡ None
-  pub from : extent.first + write.done ≤ b
-  pub below : b < extent.first + extent.count
-
--- A block becomes saved only so.
-abbrev pub SavedIsNext : Type 0
-SavedIsNext = (g : Geometry) (m : Memory) (turn : Turn) (reply : Reply) (now : Contents) (b : ℕ) → MemoryIsSound g m
-    → CanHaveIt g (call_of g m (task_of g m turn)) reply → b < g.blocks
-    → kind_at (step_of g now m (task_of g m turn) reply).memory.kinds b ≡ kinds.Saved
-    → (kind_at m.kinds b ≡ kinds.Saved) ⊎ IsNextOf g m b
-
 -- the block is one that is left to do of a write that waits and passed the tests
 pub record IsLeftOf (g : Geometry) (m : Memory) (b : ℕ) : Type 0 where
   pub write : Request
@@ -50,6 +29,21 @@ pub record IsLeftOf (g : Geometry) (m : Memory) (b : ℕ) : Type 0 where
   pub passed : refusal g m.phase write.op ≡ None
   pub from : extent.first + write.done ≤ b
   pub below : b < extent.first + extent.count
+
+-- a batch that has begun is in hand, and the block is so left to do of the write for which it was formed
+pub record IsNextOf (g : Geometry) (m : Memory) (b : ℕ) : Type 0 where
+  pub batch : Batch
+  pub in_hand : m.hand ≡ Batching batch
+  pub begun : 0 < batch.progress.done
+  pub left : IsLeftOf g m b
+  pub for_it : batch.ticket ≡ left.write.ticket
+
+-- A block becomes saved only so.
+abbrev pub SavedIsNext : Type 0
+SavedIsNext = (g : Geometry) (m : Memory) (turn : Turn) (reply : Reply) (now : Contents) (b : ℕ) → MemoryIsSound g m
+    → CanHaveIt g (call_of g m (task_of g m turn)) reply → b < g.blocks
+    → kind_at (step_of g now m (task_of g m turn) reply).memory.kinds b ≡ kinds.Saved
+    → (kind_at m.kinds b ≡ kinds.Saved) ⊎ IsNextOf g m b
 
 -- A block becomes changed or saved only so.
 abbrev pub TouchedIsLeft : Type 0

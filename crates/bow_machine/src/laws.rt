@@ -13,6 +13,7 @@ ghost use Rattle.bow_machine.specs.Ties.{CheckpointFollows};
 ghost use Rattle.bow_machine.specs.Orders.{DiskByReply, OnlyReads, ReadsBeforeDecides, DecidingIsFlushed};
 ghost use Rattle.bow_machine.specs.Orders.{ReadsBeforeArms, DecidingStaysLed};
 ghost use Rattle.bow_machine.specs.Told.{StepsTellSo, ActsTellSo};
+ghost use Rattle.bow_machine.specs.Deeds.{DeedsGoOn};
 ghost use Rattle.bow_machine.specs.Blocks.{BlocksReply};
 ghost use Rattle.bow_machine.specs.Past.{OlderLogsStay, ReadersFollow, ReadsBeside};
 ghost use Rattle.bow_machine.specs.Forward.{CommitHasFlushed, FlushedIsAhead};
@@ -178,10 +179,13 @@ pub fn order_law()
     ensures led { DecidingStaysLed }
 {}
 
-/// For each thing that a step tells: its row, and its events; a prepare arms and a commit decides at one act each.
+/// For each thing that a step tells: its row, and its events; a prepare arms and a commit decides at one act each. What
+/// a command in hand has done before its answer tells it goes on from step to step: nothing but a command changes it,
+/// and nothing but reads comes beside it.
 pub fn told_law()
     ensures rows { StepsTellSo }
     ensures acts { ActsTellSo }
+    ensures deeds { DeedsGoOn }
 {}
 
 /// What is shown of sound memory: the phase, the number of free blocks, and the sequence and the entries of the log in

@@ -1,11 +1,10 @@
-use Rattle.std.proofs.Common.{◌≡◌, Some, ap, sym, subst, ◌∙◌, refl, true, false}
-use Rattle.std.specs.Prelude.{Ok, Err}
+use Rattle.std.proofs.Common.{Some, ap, sym, subst, ◌∙◌}
 use Rattle.std.proofs.lemmas.Bool.{false≢true}
 use Rattle.bow_units.specs.Magics.{HasMagic}
-use Rattle.bow_machine.specs.Calls.{FlushCall, ReadCall}
+use Rattle.bow_machine.specs.Calls.{FlushCall}
 use Rattle.bow_core.specs.Calls.{read_reply, reply_of}
 use Rattle.bow_core.specs.Ports.{Makes}
-use Rattle.bow_core.proofs.Opened.{flush_failed, read_failed, magic_found, all_settled}
+use Rattle.bow_core.proofs.Opened.{read_failed, magic_found, all_settled}
 use Rattle.bow_core.proofs.device.settle.Goals as goal
 
 pub returns-in_default-read_block-clause-left : goal.returns-in_default-read_block-clause-left

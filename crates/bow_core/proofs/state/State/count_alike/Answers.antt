@@ -1,4 +1,4 @@
-use Rattle.std.proofs.Common.{◌≡◌, ◌+◌, ◌-◌, ◌≤◌, true, List, length, min, ap, sym, ◌∙◌, subst}
+use Rattle.std.proofs.Common.{◌≡◌, ◌+◌, ◌≤◌, true, List, length, ap, sym, ◌∙◌, subst}
 use Rattle.bow_units.specs.declared.statuses.Kind.{Kind}
 use Rattle.bow_ranges.specs.Kinds.{kind_at}
 use Rattle.bow_machine.specs.Tasks.{is_source, alike_from}

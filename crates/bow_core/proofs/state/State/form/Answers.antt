@@ -1,9 +1,9 @@
-use Rattle.std.proofs.Common.{ℕ, ◌≡◌, ◌+◌, ◌<◌, ◌≤◌, false, true, List, [], length, Option, Some, None, refl, ap, sym, subst, ◌∙◌, arith}
+use Rattle.std.proofs.Common.{false, [], refl, ap, sym, ◌∙◌, arith}
 use Rattle.bow_copy.specs.declared.jobs.Job.TheVariants.{Rewrite}
-use Rattle.bow_machine.specs.Memory.{Memory, Batch, Batching}
+use Rattle.bow_machine.specs.Memory.{Batch, Batching}
 use Rattle.bow_machine.specs.Tasks.{Acts}
 use Rattle.bow_core.specs.Held.{Held, slots_of}
-use Rattle.bow_core.proofs.Formed.{rewrites, in_hand, inside, batch_eq}
+use Rattle.bow_core.proofs.Formed.{rewrites, inside, batch_eq}
 use Rattle.bow_core.proofs.state.State.form.Goals as goal
 
 pub next-requires : goal.next-requires

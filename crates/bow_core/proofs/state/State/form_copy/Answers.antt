@@ -1,6 +1,5 @@
-use Rattle.std.proofs.Common.{ℕ, ◌≡◌, ◌+◌, ◌-◌, ◌<◌, ◌≤◌, ◌∷◌, min, false, true, List, [], length, take, Option, Some, None, refl, ap, sym, subst, ◌∙◌, arith}
-use Rattle.bow_copy.specs.Acts.{Progress}
-use Rattle.bow_copy.specs.declared.jobs.Job.TheVariants.{Move, Link, Copy}
+use Rattle.std.proofs.Common.{ℕ, ◌≡◌, ◌+◌, ◌-◌, ◌≤◌, min, false, true, [], Some, None, ap, sym, subst, ◌∙◌, arith}
+use Rattle.bow_copy.specs.declared.jobs.Job.TheVariants.{Copy}
 use Rattle.bow_machine.specs.Memory.{Memory, Batching}
 use Rattle.bow_machine.specs.Tasks.{Acts}
 use Rattle.bow_core.specs.Held.{Held, slots_of}

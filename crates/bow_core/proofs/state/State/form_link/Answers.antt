@@ -1,17 +1,14 @@
-use Rattle.std.proofs.Common.{ℕ, ◌≡◌, ◌+◌, ◌-◌, ◌<◌, ◌≤◌, ◌∷◌, min, false, true, List, [], length, take, Option, Some, None, refl, ap, sym, subst, ◌∙◌, arith}
-use Rattle.bow_copy.specs.Acts.{Progress}
-use Rattle.bow_copy.specs.declared.jobs.Job.TheVariants.{Move, Link, Copy}
-use Rattle.bow_machine.specs.Memory.{Memory, Batching}
+use Rattle.std.proofs.Common.{◌≡◌, ◌∷◌, false, [], Some, None, ap, sym, ◌∙◌}
+use Rattle.bow_copy.specs.declared.jobs.Job.TheVariants.{Link}
+use Rattle.bow_machine.specs.Memory.{Batching}
 use Rattle.bow_machine.specs.Tasks.{Acts}
 use Rattle.bow_core.specs.Held.{Held, slots_of}
 use Rattle.bow_log.specs.Generations.{generation_of}
 use Rattle.std.specs.Option.{option_map}
-use Rattle.bow_machine.specs.Steps.{log_of_memory, log_or_blank}
-use Rattle.bow_machine.specs.Tasks.{spelling, without_picked}
-use Rattle.bow_log.specs.Spelling.{spell}
-use Rattle.bow_core.specs.Inside.{LogFits}
+use Rattle.bow_machine.specs.Steps.{log_of_memory}
+use Rattle.bow_machine.specs.Tasks.{spelling}
 use Rattle.bow_core.proofs.Armed.{spelled_is}
-use Rattle.bow_core.proofs.Formed.{links, some_log, in_hand, next, inside, batch_eq, taken_view}
+use Rattle.bow_core.proofs.Formed.{links, some_log, in_hand, batch_eq, taken_view}
 use Rattle.bow_core.proofs.state.State.form_link.Goals as goal
 
 pub returns-in_default-clause-formed : goal.returns-in_default-clause-formed

@@ -1,10 +1,9 @@
-use Rattle.std.proofs.Common.{ℕ, ◌≡◌, ◌+◌, ◌-◌, ◌<◌, ◌≤◌, ◌∷◌, min, false, true, List, [], length, take, Option, Some, None, refl, ap, sym, subst, ◌∙◌, arith}
-use Rattle.bow_copy.specs.Acts.{Progress}
-use Rattle.bow_copy.specs.declared.jobs.Job.TheVariants.{Move, Link, Copy}
-use Rattle.bow_machine.specs.Memory.{Memory, Batching}
+use Rattle.std.proofs.Common.{false, [], Some, None, refl, ap, sym, ◌∙◌}
+use Rattle.bow_copy.specs.declared.jobs.Job.TheVariants.{Move}
+use Rattle.bow_machine.specs.Memory.{Batching}
 use Rattle.bow_machine.specs.Tasks.{Acts}
 use Rattle.bow_core.specs.Held.{Held, slots_of}
-use Rattle.bow_core.proofs.Formed.{moves, in_hand, next, inside, batch_eq, taken_view}
+use Rattle.bow_core.proofs.Formed.{moves, in_hand, next, batch_eq, taken_view}
 use Rattle.bow_core.proofs.state.State.form_move.Goals as goal
 
 pub returns-in_default-clause-formed : goal.returns-in_default-clause-formed

@@ -1,7 +1,5 @@
-use Rattle.std.proofs.Common.{◌+◌, ◌≤◌, List, length, ap, subst, sym, ◌∙◌, refl}
-use Rattle.bow_units.specs.declared.statuses.Kind.{Kind}
+use Rattle.std.proofs.Common.{ap, subst, sym, ◌∙◌, refl}
 use Rattle.bow_units.specs.declared.statuses.Kind.TheVariants.{Free}
-use Rattle.bow_ranges.specs.Kinds.{kind_at}
 use Rattle.bow_core.specs.Held.{Held}
 use Rattle.bow_core.specs.Inside.{is_saved}
 use Rattle.bow_core.specs.Batches.{ArePicked}
@@ -19,8 +17,6 @@ invariant_of-self g c =
       eight = k.eight;
       one = k.one;
       log = k.log;
-      few = k.few;
-      fit = k.fit;
-      room = k.room;
+      blocks = k.blocks;
       saved = saved_to table (g.R.Ranges.kinds c.set.new.self) c.args.picked c.self.inside.saved Free c.set.ensures.set own.inside (λ b low high. ap is_saved (own.backups b low high)) refl k.saved;
     }

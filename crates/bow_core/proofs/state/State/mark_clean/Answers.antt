@@ -15,9 +15,7 @@ invariant_of-self g c =
       eight = k.eight;
       one = k.one;
       log = k.log;
-      few = k.few;
-      fit = k.fit;
-      room = k.room;
+      blocks = k.blocks;
       saved = saved_none (g.R.Ranges.kinds c.self.inside.table) (g.R.Ranges.kinds c.set.new.self) c.self.inside.saved c.run-self-inside.result c.set.ensures.set k.saved c.run-self-inside.ensures.first c.run-self-inside.ensures.count;
     }
 

@@ -1,4 +1,4 @@
-use Rattle.std.proofs.Common.{◌≡◌, ◌+◌, ◌≤◌, length, Some, sym, ap, ◌∙◌, arith}
+use Rattle.std.proofs.Common.{sym, ap, ◌∙◌}
 use Rattle.bow_core.specs.Held.{Held}
 use Rattle.bow_core.proofs.Picking.{taken_inside, taken_saved}
 use Rattle.bow_core.proofs.state.State.take_free.Goals as goal
@@ -18,9 +18,7 @@ invariant_of-self g c =
       eight = k.eight;
       one = k.one;
       log = k.log;
-      few = k.few;
-      fit = k.fit;
-      room = k.room;
+      blocks = k.blocks;
       saved = taken_saved s.geometry s.memory.kinds (g.R.Ranges.kinds c.self.inside.table) (ap (λ (h : Held). h.memory.kinds) c.self.view_is) c.requires.table c.args.want c.requires.some c.in-Some.free (sym c.pick.ensures ∙ c.in-Some.is)
           (g.R.Ranges.kinds c.set.new.self) c.self.inside.saved c.set.ensures.set k.saved;
     }
