@@ -1,5 +1,5 @@
 -- One lane changed, and the others as they were.
-use Rattle.std.proofs.Common.{◌≡◌, ◌≢◌, ℕ, zero, suc, ◌+◌, ◌<◌, List, [], ◌∷◌, length, Some, arith, refl, ap, subst}
+use Rattle.std.proofs.Common.{◌≡◌, ◌≢◌, ℕ, zero, suc, List, [], ◌∷◌, length, Some, arith, refl, ap, subst}
 use Rattle.std.specs.Prelude.{slice_get, slice_set}
 use Rattle.bow_units.specs.declared.requests.Op.{Op}
 use Rattle.bow_session.specs.declared.seats.Seat.{Seat}

@@ -1,5 +1,5 @@
 -- What cuts of a session leave is what cuts of its run leave, whatever its turns; and where that leads.
-use Rattle.std.proofs.Common.{◌≡◌, ℕ, zero, suc, ◌+◌, ◌≤◌, ◌++◌, List, [], ◌∷◌, length, Option, Some, None, arith, refl, sym, ap, ◌∙◌, subst}
+use Rattle.std.proofs.Common.{◌≡◌, ℕ, zero, suc, ◌≤◌, ◌++◌, List, [], ◌∷◌, length, Option, Some, None, arith, refl, sym, ap, ◌∙◌, subst}
 use Rattle.std.specs.Prelude.{slice_get}
 use Rattle.std.specs.Option.{option_map}
 use Rattle.std.proofs.lemmas.List.{append-nil, append_assoc}
@@ -7,7 +7,6 @@ use Rattle.bow_units.specs.Draws.{next_number}
 use Rattle.bow_units.specs.declared.sizes.Geometry.{Geometry}
 use Rattle.bow_disk.specs.Disk.{Content, IsCrash, IsShaped, IsImage, Goes}
 use Rattle.bow_chain.specs.Contents.{contents_of}
-use Rattle.bow_flat.specs.Flat.{Flat}
 use Rattle.bow_guard.specs.Cuts.{candidates_of}
 use Rattle.bow_machine.specs.Ahead.{IsLed}
 use Rattle.bow_machine.specs.Calls.{Call, Reply, calls_in, DoesIt, Passes}
@@ -21,7 +20,7 @@ use Rattle.bow_history.specs.DiskCuts.{disk_of, HasCuts}
 use Rattle.bow_history.specs.Histories.{session_after, DoesTurn}
 use Rattle.bow_history.specs.Journal.{Plan}
 use Rattle.bow_history.specs.Schedule.{FollowsDraws}
-use Rattle.bow_history.specs.Sessions.{Session, Turned, Admits, Steps, turn_of, after_turn, call_in, reply_in, IsTurn}
+use Rattle.bow_history.specs.Sessions.{Session, Turned, Admits, Steps, turn_of, call_in, reply_in, IsTurn}
 use Rattle.bow_history.specs.SoundSessions.{IsSoundSession}
 use Rattle.bow_history.proofs.DiskCuts.{loaded_has_cuts, turns_have_cuts, cuts_of_disk, cuts_of_disk_are_ahead}
 use Rattle.bow_history.proofs.Runs.{beginning_is_at}
@@ -161,10 +160,13 @@ past_end (x ∷ xs) zero is = absurd (omega (arith, is))
 past_end (x ∷ xs) (suc n) is = past_end xs n (omega (arith, is))
 
 -- where all requests of each lane are answered, no lane has one left
+pub nothing_left : {D : Type 0} (v : Run D) → sessions.IsOver v → (lane : ℕ) → (plan_in v).request lane ((state_in v).number lane) ≡ None
+nothing_left v over lane = ap (option_map (request_of v.core.geometry.block_size)) (past_end (lane_lines v.script lane) ((state_in v).number lane) (over lane))
+
 over_there : {D : Type 0} (stated : D → Option Geometry) (content : D → Option Content) (faults : D → ℕ) (first : View D) (turns : List Turned) (v : Run D) → IsRun stated content faults first turns v → sessions.IsOver v
     → complete.IsOver (plan_in v) (session_after (plan_in v) (begun_over first) turns)
 over_there stated content faults first turns v run over = subst (complete.IsOver (plan_in v)) (sym run.state)
-    (λ lane below. ap (option_map (request_of v.core.geometry.block_size)) (past_end (lane_lines v.script lane) ((state_in v).number lane) (over lane)))
+    (λ lane below. nothing_left v over lane)
 
 pub over_is_complete : {D : Type 0} (stated : D → Option Geometry) (content : D → Option Content) (faults : D → ℕ) → OverIsComplete stated content faults
 over_is_complete stated content faults first turns v run over sound none = subst (IsComplete (plan_in v)) (sym (run.session).journal)
@@ -173,3 +175,7 @@ over_is_complete stated content faults first turns v run over sound none = subst
 pub over_is_idle : {D : Type 0} (stated : D → Option Geometry) (content : D → Option Content) (faults : D → ℕ) → OverIsIdle stated content faults
 over_is_idle stated content faults first turns v run over =
     ap (λ m. m.requests) (sym (run.session).memory) ∙ over_is_empty (plan_in v) (session_after (plan_in v) (begun_over first) turns) (run.session).sound (over_there stated content faults first turns v run over)
+
+-- the same of a sound session, however it came there
+pub sound_is_idle : {D : Type 0} (v : Run D) → IsSoundSession (plan_in v) (state_in v) → sessions.IsOver v → v.core.memory.requests ≡ []
+sound_is_idle v sound over = over_is_empty (plan_in v) (state_in v) sound (λ lane below. nothing_left v over lane)

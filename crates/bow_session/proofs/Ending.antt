@@ -1,20 +1,18 @@
 -- How a session ends: some actor is ready until all is answered, and each step leaves fewer.
-use Rattle.std.proofs.Common.{◌≡◌, ℕ, zero, suc, ◌+◌, ◌-◌, ◌<◌, ◌≤◌, ◌%◌, ◌&&◌, Bool, true, false, not, cond, List, [], ◌∷◌, length, map, Option, Some, None, is_none, arith, refl, sym, ap, ◌∙◌, subst}
+use Rattle.std.proofs.Common.{◌≡◌, ℕ, zero, suc, ◌+◌, ◌-◌, ◌<◌, ◌≤◌, ◌&&◌, Bool, true, false, cond, List, [], ◌∷◌, length, map, Option, Some, None, is_none, arith, refl, sym, ap, ◌∙◌}
 use Rattle.std.specs.Prelude.{slice_get}
 use Rattle.std.specs.List.{list_all}
 use Rattle.std.proofs.lemmas.Bool.{false≢true}
 use Rattle.std.proofs.lemmas.Option.{slice_get_within}
 use Rattle.bow_units.specs.declared.sizes.Geometry.{Geometry}
 use Rattle.bow_units.specs.declared.requests.Op.{Op}
-use Rattle.bow_units.specs.Draws.{next_number, drawn_value}
 use Rattle.bow_disk.specs.Disk.{Content}
-use Rattle.bow_machine.specs.Memory.{Memory}
 use Rattle.bow_history.specs.declared.items.Actor.{Actor}
 use Rattle.bow_history.specs.Journal.{Plan}
-use Rattle.bow_history.specs.Sessions.{Session, Turned, after_turn}
+use Rattle.bow_history.specs.Sessions.{Session, after_turn}
 use Rattle.bow_history.specs.Ready.{is_actor_ready}
 use Rattle.bow_history.specs.SoundSessions.{IsSoundSession}
-use Rattle.bow_history.specs.Ends.{actor_in, turns_left}
+use Rattle.bow_history.specs.Ends.{turns_left}
 use Rattle.bow_history.specs.Schedule.{actor_at, next_round, first_ready, chosen, drawn}
 use Rattle.bow_session.specs.declared.desks.Desk.{Desk}
 use Rattle.bow_session.specs.declared.seats.Asked.{Asked}
@@ -22,8 +20,8 @@ use Rattle.bow_session.specs.declared.seats.Hand.{Hand}
 use Rattle.bow_session.specs.declared.seats.Seat.{Seat}
 use Rattle.bow_session.specs.Requests.{plan_of, requests_in, lanes_of}
 use Rattle.bow_session.specs.Seats.{lane_in, is_over, section_with, AreLeft}
-use Rattle.bow_session.specs.Sessions.{Lane, lane_at, seated, Run, plan_in, state_in}
-use Rattle.bow_session.specs.Desks.{AreFit, Fits, run_of}
+use Rattle.bow_session.specs.Sessions.{Lane, lane_at, Run, plan_in, state_in}
+use Rattle.bow_session.specs.Desks.{Fits, run_of}
 use Rattle.bow_session.specs.Turns.{StepsBy}
 use Rattle.bow_session.proofs.Laws.{chosen_is_ready, turns_go_down}
 use Rattle.bow_session.proofs.Plans.{at_most}

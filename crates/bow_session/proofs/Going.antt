@@ -1,31 +1,25 @@
 -- What a step of the device told, as an item of the journal; and that there is a lane for it, with room.
-use Rattle.std.proofs.Common.{◌≡◌, ◌≢◌, ℕ, zero, suc, ◌+◌, ◌-◌, ◌<◌, ◌≤◌, ◌^◌, ◌++◌, Bool, true, false, List, [], ◌∷◌, length, map, Option, Some, None, arith, refl, sym, ap, ◌∙◌, subst}
+use Rattle.std.proofs.Common.{◌≡◌, ℕ, suc, ◌+◌, ◌<◌, ◌≤◌, List, length, map, Option, Some, None, arith, refl, sym, ap, ◌∙◌, subst}
 use Rattle.std.specs.Prelude.{slice_get}
-use Rattle.std.specs.Option.{option_map}
 use Rattle.std.proofs.lemmas.Option.{slice_get_within}
-use mathlib.Core.Path.{fun_ext}
-use Rattle.bow_units.specs.declared.requests.Op.{Op}
 use Rattle.bow_queue.specs.declared.tickets.Ticket.{Ticket}
 use Rattle.bow_machine.specs.Memory.{Memory}
 use Rattle.bow_machine.specs.Requests.{Request, request_of}
-use Rattle.bow_machine.specs.Steps.{Told, Idle as ToldIdle, Moved as ToldMoved, Wrote as ToldWrote, Got as ToldGot, Answered as ToldAnswered, extent_of}
 use Rattle.bow_core.specs.declared.turns.Step.{Step}
 use Rattle.bow_core.specs.declared.turns.Step.TheVariants.{Idle, Moved, Wrote, Got, Answered}
 use Rattle.bow_core.specs.Turns.{told_of}
-use Rattle.bow_history.specs.declared.items.Item.{Item}
 use Rattle.bow_history.specs.declared.items.Item.TheVariants as items
 use Rattle.bow_history.specs.Journal.{Plan}
-use Rattle.bow_history.specs.Sessions.{Session, lane_of, item_of, first_in as first_of_plan, IsFor}
-use Rattle.bow_history.specs.Fits.{AreSeated}
+use Rattle.bow_history.specs.Sessions.{lane_of, item_of, first_in as first_of_plan}
 use Rattle.bow_history.specs.SoundSessions.{IsSoundSession}
 use Rattle.bow_history.specs.Ends.{HasAtMost}
 use Rattle.bow_history.proofs.Seats.{lane_is}
 use Rattle.bow_session.specs.declared.seats.Hand.{Hand}
 use Rattle.bow_session.specs.declared.seats.Seat.{Seat}
-use Rattle.bow_session.specs.Seats.{lane_in, ticket_in, ticket_at, hands_of, IsHeld, AreLeft, AreNext, IsSeatFit}
-use Rattle.bow_session.specs.Sessions.{Lane, lane_at, seated}
+use Rattle.bow_session.specs.Seats.{lane_in, ticket_in, ticket_at, hands_of, IsHeld, AreLeft, AreNext}
+use Rattle.bow_session.specs.Sessions.{lane_at, seated}
 use Rattle.bow_session.specs.Desks.{AreFit}
-use Rattle.bow_session.specs.Records.{lane_with, item_told, number_in, first_in, first_with, IsSmall, IsSmallAt, HasRoomAt, IsOfLane}
+use Rattle.bow_session.specs.Records.{lane_with, item_told, number_in, first_in, first_with, IsSmallAt, HasRoomAt}
 use Rattle.bow_session.proofs.Told.{hand_is, number_is, lane_with_is}
 
 -- the lane that has a ticket in hand
@@ -48,7 +42,7 @@ hand_at seats t lane has = by (slice_get seats lane) refl has
     by None is none = absurd (grind (arith, none))
     by (Some seat) is some = by_hand seat seat.hand refl some is
 
-module _ (plan : Plan) (m : Memory) (admitted : ℕ) (seats : List Seat) (sound : IsSoundSession plan (seated m admitted (map lane_in seats))) (lanes : plan.lanes ≡ length seats) where
+module _ (plan : Plan) (m : Memory) (admitted : ℕ) (seats : List Seat) (sound : IsSoundSession plan (seated plan m admitted (map lane_in seats))) (lanes : plan.lanes ≡ length seats) where
   abbrev hands : ℕ → Option Ticket
   hands = λ lane. (lane_at (map lane_in seats) lane).hand
 
@@ -77,7 +71,7 @@ module _ (plan : Plan) (m : Memory) (admitted : ℕ) (seats : List Seat) (sound 
     same_lane t = ap (lane_of hands t) lanes ∙ lane_with_is seats t
 
     pub told_item : (tells : Step) → ((t : Ticket) (i : ℕ) → ((tells ≡ Wrote t i) → HasSeat seats t) × ((tells ≡ Got t i) → HasSeat seats t))
-        → item_told seats tells ≡ item_of plan (seated m admitted (map lane_in seats)) (told_of tells)
+        → item_told seats tells ≡ item_of plan (seated plan m admitted (map lane_in seats)) (told_of tells)
     told_item Idle some = refl
     told_item Moved some = refl
     told_item (Wrote t i) some =

@@ -1,18 +1,14 @@
 -- A session before its first step is one, and fits its script.
-use Rattle.std.proofs.Common.{◌≡◌, ℕ, zero, suc, ◌+◌, ◌-◌, ◌*◌, ◌^◌, ◌<◌, ◌≤◌, List, [], ◌∷◌, length, map, Option, Some, None, arith, refl, sym, ap, ◌∙◌, subst}
-use Rattle.std.specs.Prelude.{slice_get, slice_index_or, replicate}
-use Rattle.std.specs.List.{sum_by}
+use Rattle.std.proofs.Common.{◌≡◌, ℕ, zero, suc, ◌-◌, ◌*◌, ◌^◌, ◌<◌, ◌≤◌, List, [], ◌∷◌, length, map, Option, Some, None, arith, refl, sym, ap, ◌∙◌, subst}
+use Rattle.std.specs.Prelude.{slice_get, replicate}
 use Rattle.std.proofs.lemmas.List.Sums.{sum_by-cons}
 use mathlib.Core.Path.{fun_ext}
 use Rattle.bow_units.specs.declared.sizes.Geometry.{Geometry}
-use Rattle.bow_units.specs.declared.requests.Op.{Op}
-use Rattle.bow_units.specs.declared.requests.Op.TheVariants as ops
 use Rattle.bow_disk.specs.Disk.{Content}
 use Rattle.bow_script.specs.declared.scripts.Line.{Line}
-use Rattle.bow_script.specs.Scripts.{IsWithinLimits}
+use Rattle.bow_script.specs.Scripts.{IsWellFormed, IsWithinLimits}
 use Rattle.bow_machine.specs.Memory.{Memory}
 use Rattle.bow_machine.specs.MemoryIsSound.{MemoryIsSound}
-use Rattle.bow_machine.specs.Steps.{payload_of}
 use Rattle.bow_core.specs.Views.{View}
 use Rattle.bow_history.specs.declared.items.Item.{Item}
 use Rattle.bow_history.specs.Journal.{Plan}
@@ -20,16 +16,16 @@ use Rattle.bow_history.specs.Sessions.{Session, begun}
 use Rattle.bow_history.specs.SoundSessions.{IsSoundSession}
 use Rattle.bow_history.specs.Ends.{items_from, over_lanes, items_of_lane, items_left}
 use Rattle.bow_history.proofs.Sessions.{loaded_is_session}
-use Rattle.bow_session.specs.declared.desks.Desk.{Desk}
 use Rattle.bow_session.specs.declared.records.Records.{Records}
 use Rattle.bow_session.specs.declared.seats.Hand.{Hand}
 use Rattle.bow_session.specs.declared.seats.Seat.{Seat}
 use Rattle.bow_session.specs.Desks.{Fits, run_of, to_come}
-use Rattle.bow_session.specs.Loading.{loaded, lane_items, IsNewSeat, AreNewSeats, AreNewRecords}
-use Rattle.bow_session.specs.Requests.{lane_lines, plan_of, requests_in, lanes_of}
+use Rattle.bow_session.specs.Loading.{loaded, lane_items, IsNewSeat, AreNewRecords}
+use Rattle.bow_session.specs.Requests.{plan_of, requests_in, lanes_of}
 use Rattle.bow_session.specs.Runs.{core_of, IsRun}
-use Rattle.bow_session.specs.Seats.{lane_in, ticket_in, IsSeatFit, IsAnswer, AreLeft, AreNext}
-use Rattle.bow_session.specs.Sessions.{Run, Lane, no_lane, lane_at, seated, plan_in, state_in}
+use Rattle.bow_session.specs.Buffers.{HasBuffers, buffer_kept}
+use Rattle.bow_session.specs.Seats.{lent_with, lane_in, ticket_in, IsSeatFit, AreLeft, AreNext}
+use Rattle.bow_session.specs.Sessions.{Run, Lane, no_lane, lane_at, seated, state_in}
 use Rattle.bow_session.proofs.Laws.{beginning_is_sound}
 use Rattle.bow_session.proofs.Loads.{few_requests, few_lanes, items_of_all}
 use Rattle.bow_session.proofs.Plans.{sections_rise}
@@ -40,8 +36,8 @@ none_at (suc n) zero = refl
 none_at (suc n) (suc lane) = none_at n lane
 
 -- lanes in which nothing was done
-begun_is : (m : Memory) (admitted n : ℕ) → seated m admitted (replicate n no_lane) ≡ begun m admitted
-begun_is m admitted n = ap with_lanes (fun_ext (none_at n))
+begun_is : (plan : Plan) (m : Memory) (admitted n : ℕ) → seated plan m admitted (replicate n no_lane) ≡ begun m admitted
+begun_is plan m admitted n = ap with_lanes (fun_ext (none_at n))
   where
     with_lanes : (ℕ → Lane) → Session
     with_lanes f = record {
@@ -49,13 +45,13 @@ begun_is m admitted n = ap with_lanes (fun_ext (none_at n))
       admitted = admitted;
       number = λ lane. length ((f lane).answered);
       hand = λ lane. (f lane).hand;
-      kept = λ lane n. payload_of (slice_index_or ((f lane).answered) n ops.Flush);
+      kept = λ lane n. buffer_kept (plan.request lane n) (slice_get ((f lane).answered) n);
     }
 
 new_lane : (seat : Seat) → seat.hand ≡ None → seat.answered.items ≡ [] → lane_in seat ≡ no_lane
 new_lane seat hand answered =
     let a : lane_in seat ≡ record { answered = seat.answered.items; hand = None } = ap (λ (h : Option Hand). record { answered = seat.answered.items; hand = ticket_in h }) hand in
-    let b : record { answered = seat.answered.items; hand = None } ≡ no_lane = ap (λ (l : List Op). record { answered = l; hand = None }) answered in
+    let b : record { answered = seat.answered.items; hand = None } ≡ no_lane = ap (λ (l : List (Option (List ℕ))). record { answered = l; hand = None }) answered in
     a ∙ b
 
 new_lanes : (seats : List Seat) → ((lane : ℕ) (seat : Seat) → slice_get seats lane ≡ Some seat → lane_in seat ≡ no_lane) → map lane_in seats ≡ replicate (length seats) no_lane
@@ -96,9 +92,9 @@ module _ {D : Type 0} (R : Type 0) (core : View D) (script : List (List (List Li
       rest : (j : List Item) (m : List ℕ) → j ≡ [] → m ≡ [] → with_items j m ≡ loaded core script
       rest j m e f = ap (λ (x : List Item). with_items x m) e ∙ ap (with_items []) f
 
-  pub fits_new : MemoryIsSound core.geometry core.memory → core.memory.requests ≡ [] → core.places ≡ 16 → core.admitted < 2 ^ 63 → IsWithinLimits script → Fits {D = D} {R = R} (record { core = core; script = script; records = r })
-  fits_new sound idle places serials limits =
-      let state : state_in (run_of {D = D} {R = R} (record { core = core; script = script; records = r })) ≡ begun core.memory core.admitted = ap (λ (v : Run D). state_in v) seen ∙ begun_is core.memory core.admitted (lanes_of script) in
+  pub fits_new : MemoryIsSound core.geometry core.memory → core.memory.requests ≡ [] → core.places ≡ 16 → core.admitted < 2 ^ 63 → IsWithinLimits script → IsWellFormed script → Fits {D = D} {R = R} (record { core = core; script = script; records = r })
+  fits_new sound idle places serials limits numbers =
+      let state : state_in (run_of {D = D} {R = R} (record { core = core; script = script; records = r })) ≡ begun core.memory core.admitted = ap (λ (v : Run D). state_in v) seen ∙ begun_is (plan_of core.geometry script) core.memory core.admitted (lanes_of script) in
       let few = few_lanes script limits in
       let some = few_to_come r.seats.items (λ lane seat here. let k = (new.seats lane seat here).many in let f = few_requests script limits lane in omega (arith, k, f)) in
       let lanes = new.lanes in
@@ -106,6 +102,7 @@ module _ {D : Type 0} (R : Type 0) (core : View D) (script : List (List (List Li
       record {
         sound = subst (IsSoundSession (plan_of core.geometry script)) (sym state) (beginning_is_sound (plan_of core.geometry script) core.memory core.admitted sound idle);
         places = places;
+        numbers = numbers;
         few = few;
         small = few_requests script limits;
         lanes = lanes;
@@ -118,13 +115,14 @@ module _ {D : Type 0} (R : Type 0) (core : View D) (script : List (List (List Li
     where
       seat_fits : (lane : ℕ) (seat : Seat) → IsNewSeat (plan_of core.geometry script) (requests_in script lane) lane seat → IsSeatFit (plan_of core.geometry script) (requests_in script lane) lane seat
       seat_fits lane seat k =
-          let none : length seat.answered.items ≡ 0 = ap (λ (l : List Op). length l) k.answered in
+          let none : length seat.answered.items ≡ 0 = ap (λ (l : List (Option (List ℕ))). length l) k.answered in
           let room = k.room in
           record {
-            answers = λ n op here. absurd (let clash : None ≡ Some op = sym (ap (λ (l : List Op). slice_get l n) k.answered) ∙ here in grind (arith, clash));
+            answers = λ n kept here. absurd (let clash : None ≡ Some kept = sym (ap (λ (l : List (Option (List ℕ))). slice_get l n) k.answered) ∙ here in grind (arith, clash));
             left = subst (λ h. AreLeft (plan_of core.geometry script) lane (length seat.answered.items) h seat.pending.items) (sym k.hand) (subst (λ n. AreNext (plan_of core.geometry script) lane n seat.pending.items) (sym none) k.pending);
             within = omega (arith, none);
             room = omega (arith, none, room);
+            buffers = subst (λ h. HasBuffers core.geometry.block_size (lent_with h) seat.buffers.items) (sym k.hand) k.buffers;
           }
 
 -- it is a run of no turns
@@ -132,6 +130,6 @@ pub loaded_is_run : {D : Type 0} (stated : D → Option Geometry) (content : D �
     → MemoryIsSound core.geometry core.memory → core.memory.requests ≡ [] → core.calls ≤ 2 ^ 64 - 1 → stated core.disk ≡ Some core.geometry → IsRun stated content faults core [] (loaded core script)
 loaded_is_run stated content faults core script sound idle early sizes = record {
   session = loaded_is_session (plan_of core.geometry script) (core_of content faults core) refl early (sections_rise core.geometry script) sound idle;
-  state = sym (begun_is core.memory core.admitted (lanes_of script));
+  state = sym (begun_is (plan_of core.geometry script) core.memory core.admitted (lanes_of script));
   sizes = sizes;
 }

@@ -1,26 +1,28 @@
 -- A script, taken in section by section and lane by lane.
-use Rattle.std.proofs.Common.{◌≡◌, ℕ, zero, suc, ◌+◌, ◌-◌, ◌*◌, ◌<◌, ◌≤◌, ◌^◌, ◌++◌, nat_lt, Bool, true, false, cond, List, [], ◌∷◌, length, map, take, drop, Option, Some, None, arith, refl, sym, ap, ◌∙◌, subst, inl, inr, length-append}
-use Rattle.std.specs.Prelude.{slice_get, slice_index_or, replicate, max}
+use Rattle.std.proofs.Common.{◌≡◌, ℕ, zero, suc, ◌+◌, ◌-◌, ◌*◌, ◌/◌, ◌<◌, ◌≤◌, ◌^◌, ◌++◌, nat_lt, Bool, true, false, cond, List, [], ◌∷◌, length, take, Option, Some, None, arith, refl, sym, ap, ◌∙◌, subst, length-append}
+use Rattle.std.specs.Prelude.{slice_get, nat_le, replicate}
 use Rattle.std.specs.List.{All, sum_by, AllByRecursion}
 use Rattle.std.specs.Option.{option_map}
-use Rattle.std.proofs.lemmas.Bool.{cases_eq, cases_lt, lt-ltb, ltb-true, ltb-false}
+use Rattle.std.proofs.lemmas.Bool.{lt-ltb, ltb-true}
 use Rattle.std.proofs.lemmas.Option.{slice_get_within, slice_get_past}
+use Rattle.std.proofs.lemmas.List.{length-replicate}
 use Rattle.std.proofs.lemmas.List.Elements.{All-from_recursion, recursion_from_All}
 use Rattle.std.proofs.lemmas.List.Sums.{sum_by-cons, sum_by-append}
 use Rattle.bow_units.specs.declared.sizes.Geometry.{Geometry}
-use Rattle.bow_units.specs.declared.requests.Op.{Op}
 use Rattle.bow_script.specs.declared.scripts.Line.{Line}
 use Rattle.bow_script.specs.declared.scripts.Line.TheVariants as lines
+use Rattle.bow_units.specs.Pattern.{pattern}
+use Rattle.bow_units.specs.Sizes.{IsBlockSize, IsValid}
+use Rattle.bow_units.proofs.PatternGroups.{has_groups, length_groups}
 use Rattle.bow_script.specs.Grammar.{IsFitting}
 use Rattle.bow_script.specs.Scripts.{concat, requests_of, blocks_of, IsWithinLimits, IsWellFormed}
-use Rattle.bow_machine.specs.MemoryIsSound.{IsAdmissible}
 use Rattle.bow_machine.specs.Steps.{extent_of}
 use Rattle.bow_history.specs.Journal.{Plan}
-use Rattle.bow_history.specs.Sessions.{IsFor}
 use Rattle.bow_history.specs.Ends.{items_of, items_from, over_lanes}
 use Rattle.bow_session.specs.declared.seats.Asked.{Asked}
 use Rattle.bow_session.specs.Loading.{line_items, lane_items, AreFirst, AreThere}
-use Rattle.bow_session.specs.Requests.{request_of, section_lines, lane_lines, section_of, lanes_of, plan_of, requests_in}
+use Rattle.bow_session.specs.Buffers.{IsAskable, IsKeptFor}
+use Rattle.bow_session.specs.Requests.{patterns, written, request_of, section_lines, lane_lines, section_of, lanes_of, plan_of, requests_in}
 use Rattle.bow_session.specs.Seats.{IsNext, AreNext}
 
 -- ----------------------------------------------------------------------------------------------------------------
@@ -92,17 +94,62 @@ one_more (s ∷ ss) lane (suc k) section at =
 -- ----------------------------------------------------------------------------------------------------------------
 -- The requests of a lane.
 
+-- the numbers of bytes that a write has
+length_pattern : (b s size : ℕ) → IsBlockSize size → length (pattern b s size) ≡ size
+unfolding pattern
+length_pattern b s size is = length_groups b s (size / 8) ∙ (has_groups size is).whole
+
+length_patterns : (size first count seed : ℕ) → IsBlockSize size → length (patterns size first count seed) ≡ count * size
+length_patterns size first zero seed is = omega arith
+length_patterns size first (suc count) seed is =
+    let one = length_pattern first seed size is in
+    let rest = length_patterns size (suc first) count seed is in
+    length-append (pattern first seed size) (patterns size (suc first) count seed) ∙ omega (arith, one, rest)
+
+length_written : (size first count seed : ℕ) → IsBlockSize size → length (written size first count seed) ≡ count * size
+length_written size first count seed is = by (nat_le (first + count) 1048576)
+  where
+    by : (t : Bool) → length (cond t (patterns size first count seed) (replicate (count * size) 0)) ≡ count * size
+    by true = length_patterns size first count seed is
+    by false = length-replicate {A = ℕ} (count * size) 0
+
+large : (size : ℕ) → IsBlockSize size → 512 ≤ size
+large size is = grind (arith, is)
+
+-- the device takes in what a line asks for
+pub askable : (g : Geometry) (line : Line) → IsValid g → IsFitting line → IsAskable g (request_of g.block_size line)
+askable g (lines.Write first count seed) valid fits = record { some = omega (arith, fits.1); few = fits.2; whole = length_written g.block_size first count seed valid.size }
+askable g (lines.WriteHex first bytes) valid fits = record {
+  some = omega arith;
+  few = omega arith;
+  whole = length-append bytes (replicate (g.block_size - length bytes) 0) ∙ (let zeros = length-replicate {A = ℕ} (g.block_size - length bytes) 0 in let size = large g.block_size valid.size in omega (arith, zeros, size, fits.2));
+}
+askable g (lines.Read first count) valid fits = (omega (arith, fits.1), fits.2)
+askable g (lines.Discard first count) valid fits = tt
+askable g lines.Flush valid fits = tt
+askable g lines.Prepare valid fits = tt
+askable g lines.Commit valid fits = tt
+
+low : (size : ℕ) (line : Line) → IsFitting line → (extent_of (request_of size line)).first < 2 ^ 32
+low size (lines.Write first count seed) fits = fits.0
+low size (lines.WriteHex first bytes) fits = fits.0
+low size (lines.Read first count) fits = fits.0
+low size (lines.Discard first count) fits = fits.0
+low size lines.Flush fits = omega arith
+low size lines.Prepare fits = omega arith
+low size lines.Commit fits = omega arith
+
 -- one request more
 pub next_is : (g : Geometry) (script : List (List (List Line))) (lane n section : ℕ) (line : Line) (a : Asked)
     → (slice_get (lane_lines script lane) n ≡ Some line) × (section_of script lane n ≡ section)
-    → IsFor g (request_of g.block_size line) a.op → IsAdmissible g a.op → (extent_of a.op).first < 2 ^ 32 → a.section ≡ section → IsNext (plan_of g script) lane n a
-next_is g script lane n section line a at is whole low same = record {
+    → IsKeptFor g (request_of g.block_size line) a.buffer → IsValid g → IsFitting line → a.section ≡ section → IsNext (plan_of g script) lane n a
+next_is g script lane n section line a at buffer valid fits same = record {
   asked = request_of g.block_size line;
   next = ap (option_map (request_of g.block_size)) at.0;
-  is = is;
-  whole = whole;
+  buffer = buffer;
+  askable = askable g line valid fits;
   section = same ∙ sym at.1;
-  low = low;
+  low = low g.block_size line fits;
 }
 
 -- a lane's first requests are the next ones, where there is none behind them
@@ -141,6 +188,23 @@ section_fits (s ∷ ss) lane (suc k) section at all = section_fits ss lane k sec
 
 pub all_fit : (script : List (List (List Line))) (lane k : ℕ) (section : List (List Line)) → IsWellFormed script → slice_get script k ≡ Some section → All IsFitting (section_lines section lane)
 all_fit script lane k section well at = All-from_recursion IsFitting (section_lines section lane) (section_fits script lane k section at (recursion_from_All IsFitting (requests_of script) well))
+
+both_fit : (xs ys : List Line) → AllByRecursion IsFitting xs → AllByRecursion IsFitting ys → AllByRecursion IsFitting (xs ++ ys)
+both_fit [] ys one other = other
+both_fit (x ∷ xs) ys one other = (one.0, both_fit xs ys one.1 other)
+
+whole_lane_fits : (script : List (List (List Line))) (lane : ℕ) → AllByRecursion IsFitting (requests_of script) → AllByRecursion IsFitting (lane_lines script lane)
+whole_lane_fits [] lane all = tt
+whole_lane_fits (s ∷ ss) lane all = both_fit (section_lines s lane) (lane_lines ss lane) (lane_fits s lane (left_of IsFitting (concat s) (requests_of ss) all)) (whole_lane_fits ss lane (right_of IsFitting (concat s) (requests_of ss) all))
+
+one_fits : (xs : List Line) (n : ℕ) (line : Line) → AllByRecursion IsFitting xs → slice_get xs n ≡ Some line → IsFitting line
+one_fits [] n line all here = absurd (grind (arith, here))
+one_fits (x ∷ xs) zero line all here = let same : x ≡ line = cc here in subst IsFitting same all.0
+one_fits (x ∷ xs) (suc n) line all here = one_fits xs n line all.1 here
+
+-- each line of a lane
+pub line_fits : (script : List (List (List Line))) (lane n : ℕ) (line : Line) → IsWellFormed script → slice_get (lane_lines script lane) n ≡ Some line → IsFitting line
+line_fits script lane n line well here = one_fits (lane_lines script lane) n line (whole_lane_fits script lane (recursion_from_All IsFitting (requests_of script) well)) here
 
 -- ----------------------------------------------------------------------------------------------------------------
 -- How many.
@@ -259,12 +323,12 @@ taken_all (x ∷ xs) (suc k) past = ap (λ l. x ∷ l) (taken_all xs k (omega (a
 
 pub first_on : (g : Geometry) (script : List (List (List Line))) (lane section k : ℕ) (old pending new : List Asked) (lines : List Line) (line : Line) (a : Asked)
     → length pending ≡ length old + k → new ≡ pending ++ a ∷ [] → slice_get lines k ≡ Some line
-    → IsFor g (request_of g.block_size line) a.op → IsAdmissible g a.op → (extent_of a.op).first < 2 ^ 32 → a.section ≡ section
+    → IsKeptFor g (request_of g.block_size line) a.buffer → IsValid g → IsFitting line → a.section ≡ section
     → AreThere script lane (length old) section lines → AreFirst (plan_of g script) lane pending → AreFirst (plan_of g script) lane new
-first_on g script lane section k old pending new lines line a long more here is whole low same at first =
+first_on g script lane section k old pending new lines line a long more here buffer valid fits same at first =
     let place = subst (λ n. (slice_get (lane_lines script lane) n ≡ Some line) × (section_of script lane n ≡ section)) (sym long) (at k line here) in
     subst (λ l. AreFirst (plan_of g script) lane l) (sym more)
-    (pushed (λ n x. IsNext (plan_of g script) lane n x) pending a first (next_is g script lane (length pending) section line a place is whole low same))
+    (pushed (λ n x. IsNext (plan_of g script) lane n x) pending a first (next_is g script lane (length pending) section line a place buffer valid fits same))
 
 pub long_on : (k : ℕ) (old pending new : List Asked) (a : Asked) → length pending ≡ length old + k → new ≡ pending ++ a ∷ [] → length new ≡ length old + (k + 1)
 long_on k old pending new a long more = let e = ap (λ (l : List Asked). length l) more in let f = length-append pending (a ∷ []) in omega (arith, long, e, f)

@@ -1,10 +1,9 @@
 -- All requests are answered where no lane has one left.
-use Rattle.std.proofs.Common.{◌≡◌, ℕ, zero, suc, ◌+◌, ◌<◌, ◌≤◌, ◌&&◌, Bool, true, false, List, [], ◌∷◌, length, map, Option, Some, None, is_none, arith, refl, sym, ap, ◌∙◌, subst}
+use Rattle.std.proofs.Common.{◌≡◌, ℕ, zero, suc, ◌≤◌, ◌&&◌, true, List, [], ◌∷◌, length, map, Option, Some, None, is_none, arith, refl, sym, ap, ◌∙◌}
 use Rattle.std.specs.Prelude.{slice_get}
 use Rattle.std.specs.List.{list_all}
 use Rattle.std.specs.Option.{option_map}
 use Rattle.std.proofs.lemmas.Bool.{false≢true, and_parts}
-use Rattle.std.proofs.lemmas.Option.{slice_get_within}
 use Rattle.bow_units.specs.declared.requests.Op.{Op}
 use Rattle.bow_script.specs.declared.scripts.Line.{Line}
 use Rattle.bow_history.specs.Journal.{Plan}
@@ -12,9 +11,9 @@ use Rattle.bow_session.specs.declared.desks.Desk.{Desk}
 use Rattle.bow_session.specs.declared.seats.Asked.{Asked}
 use Rattle.bow_session.specs.declared.seats.Hand.{Hand}
 use Rattle.bow_session.specs.declared.seats.Seat.{Seat}
-use Rattle.bow_session.specs.Requests.{request_of, lane_lines, requests, plan_of, requests_in, lanes_of}
+use Rattle.bow_session.specs.Requests.{request_of, lane_lines, plan_of}
 use Rattle.bow_session.specs.Seats.{lane_in, is_over, section_with, AreLeft}
-use Rattle.bow_session.specs.Sessions.{Lane, no_lane, lane_at, IsOver, plan_in}
+use Rattle.bow_session.specs.Sessions.{Lane, no_lane, lane_at, IsOver}
 use Rattle.bow_session.specs.Desks.{Fits, run_of}
 use Rattle.bow_session.proofs.Plans.{at_most}
 use Rattle.bow_session.proofs.Told.{lane_found}
@@ -41,12 +40,12 @@ over_none plan lane n (Some h) ps k none = absurd (none (k.0).asked (k.0).next)
 over_none plan lane n None [] k none = refl
 over_none plan lane n None (a ∷ ps) k none = absurd (none (k.0).asked (k.0).next)
 
-no_more : (size : ℕ) (lines : List Line) (n : ℕ) → option_map (request_of size) (slice_get lines n) ≡ None → length lines ≤ n
+pub no_more : (size : ℕ) (lines : List Line) (n : ℕ) → option_map (request_of size) (slice_get lines n) ≡ None → length lines ≤ n
 no_more size [] n none = omega arith
 no_more size (x ∷ xs) zero none = absurd (grind (arith, none))
 no_more size (x ∷ xs) (suc n) none = let rest = no_more size xs n none in omega (arith, rest)
 
-no_lane_there : (seats : List Seat) (lane : ℕ) → slice_get seats lane ≡ None → lane_at (map lane_in seats) lane ≡ no_lane
+pub no_lane_there : (seats : List Seat) (lane : ℕ) → slice_get seats lane ≡ None → lane_at (map lane_in seats) lane ≡ no_lane
 no_lane_there [] lane none = refl
 no_lane_there (x ∷ xs) zero none = absurd (grind (arith, none))
 no_lane_there (x ∷ xs) (suc lane) none = no_lane_there xs lane none

@@ -1,15 +1,14 @@
 -- What a script asks of a device.
-use Rattle.std.proofs.Common.{◌≡◌, ℕ, zero, suc, ◌+◌, ◌-◌, ◌<◌, ◌≤◌, nat_lt, Bool, true, false, cond, List, [], ◌∷◌, length, Option, Some, None, arith, refl, sym, ap, ◌∙◌, subst}
-use Rattle.std.specs.Prelude.{slice_get, max}
+use Rattle.std.proofs.Common.{◌≡◌, ℕ, suc, ◌-◌, ◌<◌, ◌≤◌, nat_lt, Bool, true, false, cond, List, [], ◌∷◌, length, Option, Some, None, arith, refl, ap}
+use Rattle.std.specs.Prelude.{slice_get}
 use Rattle.std.specs.Option.{option_map}
 use Rattle.std.proofs.lemmas.Option.{slice_get_within}
 use Rattle.std.proofs.lemmas.Bool.{ltb-true, ltb-false}
 use Rattle.bow_units.specs.declared.sizes.Geometry.{Geometry}
-use Rattle.bow_units.specs.declared.requests.Op.{Op}
 use Rattle.bow_script.specs.declared.scripts.Line.{Line}
 use Rattle.bow_history.specs.Sections.{SectionsRise}
 use Rattle.bow_history.specs.Ends.{HasAtMost}
-use Rattle.bow_session.specs.Requests.{request_of, section_lines, lane_lines, section_of, lanes_of, plan_of, requests_in}
+use Rattle.bow_session.specs.Requests.{request_of, section_lines, lane_lines, section_of, plan_of, requests_in}
 
 rise_in : (script : List (List (List Line))) (lane n : ℕ) → section_of script lane n ≤ section_of script lane (suc n)
 rise_in [] lane n = omega arith

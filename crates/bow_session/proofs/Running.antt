@@ -1,5 +1,5 @@
 -- A session stays a run of the theory with each turn.
-use Rattle.std.proofs.Common.{◌≡◌, ℕ, zero, suc, ◌+◌, ◌-◌, ◌^◌, ◌<◌, ◌≤◌, ◌++◌, min, max, List, [], ◌∷◌, Option, Some, None, arith, refl, sym, ap, ◌∙◌, subst}
+use Rattle.std.proofs.Common.{◌≡◌, ℕ, ◌+◌, ◌-◌, ◌^◌, ◌≤◌, ◌++◌, max, List, [], ◌∷◌, Option, Some, None, arith, refl, sym, ap, ◌∙◌, subst}
 use Rattle.std.specs.Option.{option_map}
 use Rattle.std.proofs.lemmas.List.{append-nil, append_assoc}
 use Rattle.bow_units.specs.Draws.{next_number}
@@ -12,10 +12,8 @@ use Rattle.bow_machine.specs.MemoryLaws.{IsOnDevice}
 use Rattle.bow_machine.specs.Tasks.{Turn}
 use Rattle.bow_machine.proofs.SoundCalls.{calls_are_on_device}
 use Rattle.bow_core.specs.Calls.{DoesOne, HasFault}
-use Rattle.bow_core.specs.Ports.{Makes}
 use Rattle.bow_core.specs.Views.{View}
 use Rattle.bow_core.proofs.Leading.{does_it}
-use Rattle.bow_history.specs.declared.items.Actor.{Actor}
 use Rattle.bow_history.specs.Journal.{Plan}
 use Rattle.bow_history.specs.Sessions.{Session, Turned, Admits, Steps, turn_of, after_turn, item_in, call_in, call_of_turn, reply_in, IsTurn}
 use Rattle.bow_history.specs.Histories.{session_after}

@@ -1,15 +1,13 @@
 -- A step of the device is one turn of the session, and what is kept goes on to fit.
-use Rattle.std.proofs.Common.{◌≡◌, ◌≢◌, ℕ, zero, suc, ◌+◌, ◌-◌, ◌<◌, ◌≤◌, ◌^◌, ◌++◌, ◌⊎◌, Bool, true, false, List, [], ◌∷◌, length, map, Option, Some, None, arith, refl, sym, ap, ◌∙◌, subst, inl, inr, length-append}
+use Rattle.std.proofs.Common.{◌≡◌, ℕ, zero, suc, ◌+◌, ◌≤◌, ◌++◌, ◌⊎◌, List, [], ◌∷◌, length, map, Option, Some, None, arith, refl, sym, ap, ◌∙◌, subst, inl, inr, length-append}
 use Rattle.std.specs.Prelude.{slice_get}
 use Rattle.std.specs.List.{sum_by}
 use Rattle.std.specs.Option.{option_map}
-use Rattle.std.proofs.lemmas.Option.{slice_get_within}
-use Rattle.std.proofs.lemmas.Bool.{cases_eq, cases_lt}
+use Rattle.std.proofs.lemmas.Bool.{cases_eq}
 use Rattle.std.proofs.lemmas.List.Sums.{sum_by-cons}
 use Rattle.bow_units.specs.declared.sizes.Geometry.{Geometry}
 use Rattle.bow_units.specs.declared.requests.Op.{Op}
 use Rattle.bow_units.specs.declared.requests.Outcome.{Outcome}
-use Rattle.bow_session.specs.declared.seats.Asked.{Asked}
 use Rattle.bow_disk.specs.Disk.{Content}
 use Rattle.bow_chain.specs.Contents.{Contents}
 use Rattle.bow_flat.specs.Flat.{Event}
@@ -35,20 +33,20 @@ use Rattle.bow_history.specs.declared.items.Actor.{Actor}
 use Rattle.bow_history.specs.declared.items.Item.{Item}
 use Rattle.bow_history.specs.Journal.{Plan}
 use Rattle.bow_history.specs.Sessions.{Session, Turned, Steps, turn_of, unknown, device_step, told_to, after_step, after_turn_of, after_turn, item_of, item_of_turn, item_in, call_of_turn, IsActor, IsTurn, IsFor}
-use Rattle.bow_history.specs.Fits.{IsSeat}
 use Rattle.bow_history.specs.SoundSessions.{IsSoundSession}
 use Rattle.bow_history.specs.Ends.{HasAtMost, items_left, items_made}
 use Rattle.bow_history.specs.Promises.{items, more}
 use Rattle.bow_session.specs.declared.desks.Desk.{Desk}
 use Rattle.bow_session.specs.declared.records.Records.{Records}
-use Rattle.bow_session.specs.declared.seats.Hand.{Hand}
 use Rattle.bow_session.specs.declared.seats.Seat.{Seat}
-use Rattle.bow_session.specs.Requests.{plan_of, requests_in, lanes_of}
-use Rattle.bow_session.specs.Seats.{lane_in, ticket_at, ticket_in, AreLeft, AreNext, IsHeld, IsAnswer, IsSeatFit}
-use Rattle.bow_session.specs.Sessions.{Lane, lane_at, Run, plan_in, state_in, seated}
+use Rattle.bow_session.specs.Requests.{plan_of, requests_in}
+use Rattle.bow_session.specs.Seats.{lane_in, ticket_at, ticket_in, AreLeft, AreNext, IsSeatFit, lent_with}
+use Rattle.bow_session.specs.Sessions.{Lane, plan_in, state_in, seated}
 use Rattle.bow_session.specs.Desks.{run_of, AreFit, to_come, Fits}
-use Rattle.bow_session.specs.Records.{item_told, lane_with, IsOfLane, IsAnswered, HasAnswered, SeatsAfter}
-use Rattle.bow_session.specs.Turns.{IsOneTurn, StepsBy}
+use Rattle.bow_session.specs.Records.{item_told, lane_with, IsOfLane, HasAnswered, SeatsAfter}
+use Rattle.bow_session.specs.Turns.{IsOneTurn}
+use Rattle.bow_session.specs.Buffers.{HasBuffers, IsAskable, IsKeptFor, kept_of, lent_to}
+use Rattle.bow_session.proofs.Filled.{back_fits, kept_for}
 use Rattle.bow_session.proofs.Going.{HasSeat, has_seat, told_item, small_at, room_at, held}
 use Rattle.bow_session.proofs.Laws.{turns_keep_sound, items_go_down}
 use Rattle.bow_session.proofs.Plans.{sections_rise, at_most}
@@ -87,11 +85,11 @@ one_item : (item : Option Item) (x : Item) → item ≡ Some x → items_made it
 one_item item x is = ap items_made is
 
 -- one more answer among the answers
-more_get : (xs : List Op) (op x : Op) (n : ℕ) → slice_get (xs ++ op ∷ []) n ≡ Some x → (slice_get xs n ≡ Some x) ⊎ ((n ≡ length xs) × (x ≡ op))
-more_get [] op x zero here = inr (refl, (let same : op ≡ x = cc here in sym same))
-more_get [] op x (suc n) here = absurd (grind (arith, here))
-more_get (y ∷ ys) op x zero here = inl here
-more_get (y ∷ ys) op x (suc n) here = elim (more_get ys op x n here) [ inl old ↦ inl old | inr new ↦ inr (ap suc new.0, new.1) ]
+more_get : (xs : List (Option (List ℕ))) (last x : Option (List ℕ)) (n : ℕ) → slice_get (xs ++ last ∷ []) n ≡ Some x → (slice_get xs n ≡ Some x) ⊎ ((n ≡ length xs) × (x ≡ last))
+more_get [] last x zero here = inr (refl, (let same : last ≡ x = cc here in sym same))
+more_get [] last x (suc n) here = absurd (grind (arith, here))
+more_get (y ∷ ys) last x zero here = inl here
+more_get (y ∷ ys) last x (suc n) here = elim (more_get ys last x n here) [ inl old ↦ inl old | inr new ↦ inr (ap suc new.0, new.1) ]
 
 -- what is kept of the lanes
 record KeptSeats (plan : Plan) (counts : ℕ → ℕ) (old new : List Seat) : Type 0 where
@@ -99,34 +97,50 @@ record KeptSeats (plan : Plan) (counts : ℕ → ℕ) (old new : List Seat) : Ty
   coming : to_come new ≡ to_come old
   fit : AreFit plan counts new
 
-module _ (plan : Plan) (m : Memory) (admitted : ℕ) (seats : List Seat) (sound : IsSoundSession plan (seated m admitted (map lane_in seats))) (lanes : plan.lanes ≡ length seats)
+-- what was asked for, of a request that was answered
+asked_of : (plan : Plan) (m : Memory) (admitted : ℕ) (seats : List Seat) (sound : IsSoundSession plan (seated plan m admitted (map lane_in seats))) (lanes : plan.lanes ≡ length seats)
+    (t : Ticket) (op : Op) (r : Request) (waits : request_of t m.requests ≡ Some r) (is : r.op ≡ op)
+    → (asked : Op) × (plan.request (lane_with seats t) (length ((has_seat plan m admitted seats sound lanes t r waits).seat).answered.items) ≡ Some asked) × IsFor plan.sizes asked op
+asked_of plan m admitted seats sound lanes t op r waits is =
+    let h = has_seat plan m admitted seats sound lanes t r waits in
+    let seat = (sound.seated).each (lane_with seats t) t (hand_is seats (lane_with seats t) ∙ ap ticket_at h.here ∙ ap ticket_in h.has ∙ ap Some h.is) in
+    let request : seat.request ≡ r = one_request (request_of t m.requests) seat.request r seat.waits waits in (
+      seat.asked,
+      ap (plan.request (lane_with seats t)) (sym (ap (λ (l : Lane). length l.answered) (lane_found seats (lane_with seats t) h.seat h.here))) ∙ seat.next,
+      subst (λ o. IsFor plan.sizes seat.asked o) (ap (λ (q : Request). q.op) request ∙ is) seat.is,
+    )
+  where
+    one_request : (o : Option Request) (x y : Request) → o ≡ Some x → o ≡ Some y → x ≡ y
+    one_request o x y here there = let e : Some x ≡ Some y = sym here ∙ there in cc e
+
+module _ (plan : Plan) (m : Memory) (admitted : ℕ) (seats : List Seat) (sound : IsSoundSession plan (seated plan m admitted (map lane_in seats))) (lanes : plan.lanes ≡ length seats)
     (counts : ℕ → ℕ) (most : HasAtMost plan counts) (fit : AreFit plan counts seats) where
   kept_all : (new : List Seat) → new ≡ seats → KeptSeats plan counts seats new
   kept_all new same = record { count = ap length same; coming = ap to_come same; fit = subst (AreFit plan counts) (sym same) fit }
 
   module _ (t : Ticket) (op : Op) (r : Request) (waits : request_of t m.requests ≡ Some r) (is : r.op ≡ op) (new : List Seat) (a : HasAnswered (lane_with seats t) op seats new) where
-    abbrev seat_is : IsSeat plan m.requests (λ lane. length ((lane_at (map lane_in seats) lane).answered)) (lane_with seats t) t
-    seat_is =
-        let h = has_seat plan m admitted seats sound lanes t r waits in
-        (sound.seated).each (lane_with seats t) t (hand_is seats (lane_with seats t) ∙ ap ticket_at h.here ∙ ap ticket_in h.has ∙ ap Some h.is)
-
     pub answered_fits : IsSeatFit plan (counts (lane_with seats t)) (lane_with seats t) ((a.here ((has_seat plan m admitted seats sound lanes t r waits).seat) ((has_seat plan m admitted seats sound lanes t r waits).here)).0)
     answered_fits =
         let h = has_seat plan m admitted seats sound lanes t r waits in
         let b = (a.here h.seat h.here).2 in
         let kept = held plan m admitted seats sound lanes counts most fit t h in
         let f = fit (lane_with seats t) h.seat h.here in
-        let long : length ((a.here h.seat h.here).0).answered.items ≡ suc (length (h.seat).answered.items) = ap length b.answered ∙ length-append (h.seat).answered.items (op ∷ []) ∙ omega arith in
+        let long : length ((a.here h.seat h.here).0).answered.items ≡ suc (length (h.seat).answered.items) = ap length b.answered ∙ length-append (h.seat).answered.items (kept_of op ∷ []) ∙ omega arith in
         let below = most (lane_with seats t) (length (h.seat).answered.items) (kept.0).asked (kept.0).next in
+        let asks = asked_of plan m admitted seats sound lanes t op r waits is in
+        let same : (kept.0).asked ≡ asks.0 = (let e : Some ((kept.0).asked) ≡ Some asks.0 = sym (kept.0).next ∙ asks.1 in cc e) in
+        let lent : lent_with (h.seat).hand ≡ lent_to asks.0 = ap lent_with h.has ∙ (kept.0).lent ∙ ap lent_to same in
         record {
-          answers = λ n x found. elim (more_get (h.seat).answered.items op x n (subst (λ (xs : List Op). slice_get xs n ≡ Some x) b.answered found)) [
+          answers = λ n x found. elim (more_get (h.seat).answered.items (kept_of op) x n (subst (λ (xs : List (Option (List ℕ))). slice_get xs n ≡ Some x) b.answered found)) [
             | inl old ↦ f.answers n x old
             | inr last ↦ record {
-              asked = (seat_is).asked;
-              next = ap (plan.request (lane_with seats t)) (last.0 ∙ sym (ap (λ (l : Lane). length l.answered) (lane_found seats (lane_with seats t) h.seat h.here))) ∙ (seat_is).next;
-              is = subst (λ o. IsFor plan.sizes (seat_is).asked o) (ap (λ (q : Request). q.op) (let same : (seat_is).request ≡ r = cc ((seat_is).waits, waits) in same) ∙ is ∙ sym last.1) (seat_is).is;
+              asked = asks.0;
+              next = ap (plan.request (lane_with seats t)) last.0 ∙ asks.1;
+              is = subst (IsKeptFor plan.sizes asks.0) (sym last.1) (kept_for plan.sizes asks.0 op asks.2);
             }
           ];
+          buffers = subst (λ o. HasBuffers plan.sizes.block_size (lent_with o) ((a.here h.seat h.here).0).buffers.items) (sym b.hand)
+              (back_fits plan.sizes asks.0 op (lent_with (h.seat).hand) (h.seat).buffers.items ((a.here h.seat h.here).0).buffers.items f.buffers lent asks.2 (subst (IsAskable plan.sizes) same (kept.0).askable) b.buffers);
           left = subst (λ o. AreLeft plan (lane_with seats t) (length ((a.here h.seat h.here).0).answered.items) o ((a.here h.seat h.here).0).pending.items) (sym b.hand)
               (subst (λ n. AreNext plan (lane_with seats t) n ((a.here h.seat h.here).0).pending.items) (sym long) (subst (λ ps. AreNext plan (lane_with seats t) (suc (length (h.seat).answered.items)) ps.items) (sym b.pending) kept.1));
           within = omega (arith, long, below);
@@ -174,7 +188,7 @@ module _ {D R : Type 0} (stated : D → Option Geometry) (content : D → Option
   counts = requests_in s.script
 
   abbrev st : Session
-  st = seated s.core.memory s.core.admitted (map lane_in s.records.seats.items)
+  st = seated plan s.core.memory s.core.admitted (map lane_in s.records.seats.items)
 
   abbrev turned : Turned
   turned = Steps actor step.reply
@@ -236,15 +250,18 @@ module _ {D R : Type 0} (stated : D → Option Geometry) (content : D → Option
     abbrev now : Desk D R
     now = record { core = core; script = s.script; records = rec }
 
-    some : (t : Ticket) (op : Op) (outcome : Outcome) → tells ≡ Answered t op outcome → (seat : Seat) × (slice_get s.records.seats.items (lane_with s.records.seats.items t) ≡ Some seat)
+    some : (t : Ticket) (op : Op) (outcome : Outcome) → tells ≡ Answered t op outcome
+        → (seat : Seat) × (asked : Op) × (slice_get s.records.seats.items (lane_with s.records.seats.items t) ≡ Some seat)
+        × (plan.request (lane_with s.records.seats.items t) (length seat.answered.items) ≡ Some asked) × IsFor plan.sizes asked op
     some t op outcome is =
         let w = subst (λ x. IsOfWaiting s.core.memory (told_of x)) is waits in
-        let h = seat_of t w.0 w.1 in
-        (h.seat, h.here)
+        let h = has_seat plan s.core.memory s.core.admitted s.records.seats.items k.sound lanes t w.0 w.1 in
+        let asks = asked_of plan s.core.memory s.core.admitted s.records.seats.items k.sound lanes t op w.0 w.1 w.2 in
+        (h.seat, asks.0, h.here, asks.1, asks.2)
 
     pub state_after : state_in (run_of now) ≡ after_turn plan st turned
     state_after =
-        ap (λ n. seated core.memory n (map lane_in rec.seats.items)) step.admitted ∙ ap (λ m. seated m s.core.admitted (map lane_in rec.seats.items)) step.memory
+        ap (λ g. seated (plan_of g s.script) core.memory core.admitted (map lane_in rec.seats.items)) step.geometry ∙ ap (λ n. seated plan core.memory n (map lane_in rec.seats.items)) step.admitted ∙ ap (λ m. seated plan m s.core.admitted (map lane_in rec.seats.items)) step.memory
         ∙ told_lanes plan (device_step s.core.geometry s.core.memory (machine_turn own) step.reply).memory s.core.admitted s.records.seats.items rec.seats.items tells lanes some seats
         ∙ ap (told_to plan (record st { memory = (device_step s.core.geometry s.core.memory (machine_turn own) step.reply).memory })) step.told ∙ sym after_is
 
@@ -268,6 +285,7 @@ module _ {D R : Type 0} (stated : D → Option Geometry) (content : D → Option
         record {
           sound = subst (λ g. IsSoundSession (plan_of g s.script) (state_in (run_of now))) (sym step.geometry) (subst (IsSoundSession plan) (sym state_after) (turns_keep_sound plan st turned (sections_rise s.core.geometry s.script) k.sound may));
           places = step.places ∙ k.places;
+          numbers = k.numbers;
           few = k.few;
           small = k.small;
           lanes = kept.count ∙ k.lanes;

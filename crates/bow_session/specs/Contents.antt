@@ -1,5 +1,5 @@
 -- What the reads of a session have read.
-use Rattle.std.specs.Prelude.{◌≡◌, ℕ, ◌-◌, ◌*◌, List, [], length, slice_get, Option, None, Some}
+use Rattle.std.specs.Prelude.{ℕ, ◌-◌, List, [], slice_get, Option, None, Some}
 use Rattle.bow_units.specs.declared.requests.Op.{Op}
 use Rattle.bow_units.specs.declared.requests.Op.TheVariants.{Read}
 use Rattle.bow_flat.specs.Flat.{block_at}
@@ -8,14 +8,14 @@ use Rattle.bow_history.specs.declared.items.Item.TheVariants.{Wrote, Got, Answer
 use Rattle.bow_history.specs.Journal.{Plan, Buffers}
 use Rattle.bow_session.specs.Sessions.{Lane, lane_at}
 
--- the bytes in the buffer of a read, and none of another request
-abbrev pub bytes_read : Option Op → Option (List ℕ)
-bytes_read (Some (Read e bytes)) = Some bytes
-bytes_read request = None
+-- what is kept, where the request is answered
+abbrev pub bytes_kept : Option (Option (List ℕ)) → Option (List ℕ)
+bytes_kept None = None
+bytes_kept (Some kept) = kept
 
 -- what stands in the buffer of request n of a lane, if it is an answered read
 abbrev pub data_of : List Lane → ℕ → ℕ → Option (List ℕ)
-data_of lanes lane n = bytes_read (slice_get ((lane_at lanes lane).answered) n)
+data_of lanes lane n = bytes_kept (slice_get ((lane_at lanes lane).answered) n)
 
 -- what the buffer of a request has of block b, if it is a read
 abbrev pub block_read : ℕ → Option Op → List ℕ → ℕ → List ℕ
@@ -32,8 +32,3 @@ content_in plan buffer (Answered lane n outcome) = []
 abbrev pub bytes_given : Option (List ℕ) → List ℕ
 bytes_given None = []
 bytes_given (Some bytes) = bytes
-
--- the buffer of a read is as long as its blocks
-abbrev pub IsWhole : ℕ → Op → Type 0
-IsWhole size (Read e bytes) = length bytes ≡ e.count * size
-IsWhole size op = Unit {0}

@@ -1,11 +1,8 @@
 -- How the parts of a session are seen, and what holds of them.
 use Rattle.std.specs.Prelude.{◌≡◌, ℕ, ◌+◌, ◌-◌, ◌<◌, ◌≤◌, ◌^◌, List, length, map, slice_get, Some}
 use Rattle.std.specs.List.{sum_by}
-use Rattle.bow_machine.specs.Memory.{Memory}
-use Rattle.bow_core.specs.Views.{View}
-use Rattle.bow_script.specs.declared.scripts.Line.{Line}
+use Rattle.bow_script.specs.Scripts.{IsWellFormed}
 use Rattle.bow_history.specs.Journal.{Plan}
-use Rattle.bow_history.specs.Sessions.{Session}
 use Rattle.bow_history.specs.SoundSessions.{IsSoundSession}
 use Rattle.bow_history.specs.Ends.{items_left}
 use Rattle.bow_session.specs.declared.desks.Desk.{Desk}
@@ -38,6 +35,7 @@ to_come seats = sum_by (λ (seat : Seat). length seat.pending.items) seats
 pub record Fits {D R : Type 0} (s : Desk D R) : Type 0 where
   pub sound : IsSoundSession (plan_in (run_of s)) (state_in (run_of s))
   pub places : s.core.places ≡ 16
+  pub numbers : IsWellFormed s.script
   pub few : lanes_of s.script ≤ 16
   pub small : (lane : ℕ) → requests_in s.script lane ≤ 65536
   pub lanes : length s.records.seats.items ≡ lanes_of s.script

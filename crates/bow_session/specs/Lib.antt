@@ -1,6 +1,8 @@
+pub mod Buffers
 pub mod Contents
 pub mod Cuts
 pub mod Desks
+pub mod Leads
 pub mod Loading
 pub mod Plays
 pub mod Records

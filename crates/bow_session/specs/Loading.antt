@@ -1,5 +1,5 @@
 -- How a session is taken in, before its first turn.
-use Rattle.std.specs.Prelude.{◌≡◌, ℕ, ◌+◌, ◌≤◌, List, [], length, replicate, slice_get, Option, None, Some}
+use Rattle.std.specs.Prelude.{◌≡◌, ℕ, ◌+◌, List, [], length, replicate, slice_get, None, Some}
 use Rattle.std.specs.List.{sum_by}
 use Rattle.bow_core.specs.Views.{View}
 use Rattle.bow_script.specs.declared.scripts.Line.{Line}
@@ -9,6 +9,7 @@ use Rattle.bow_history.specs.Ends.{over_lanes}
 use Rattle.bow_session.specs.declared.records.Records.{Records}
 use Rattle.bow_session.specs.declared.seats.Asked.{Asked}
 use Rattle.bow_session.specs.declared.seats.Seat.{Seat}
+use Rattle.bow_session.specs.Buffers.{HasBuffers}
 use Rattle.bow_session.specs.Requests.{lane_lines, section_of, lanes_of, requests_in}
 use Rattle.bow_session.specs.Seats.{IsNext, AreNext}
 use Rattle.bow_session.specs.Sessions.{Run, no_lane}
@@ -40,13 +41,14 @@ abbrev pub AreThere : List (List (List Line)) → ℕ → ℕ → ℕ → List L
 AreThere script lane n section lines = (i : ℕ) (line : Line) → slice_get lines i ≡ Some line
     → (slice_get (lane_lines script lane) (n + i) ≡ Some line) × (section_of script lane (n + i) ≡ section)
 
--- a lane before its first step: all its requests are to come, and there is room for their answers
+-- a lane before its first step: all its requests are to come, with room for their answers and a buffer for each write
 pub record IsNewSeat (plan : Plan) (count lane : ℕ) (seat : Seat) : Type 0 where
   pub hand : seat.hand ≡ None
   pub answered : seat.answered.items ≡ []
   pub room : seat.answered.room ≡ count
   pub pending : AreNext plan lane 0 seat.pending.items
   pub many : length seat.pending.items ≡ count
+  pub buffers : HasBuffers plan.sizes.block_size 0 seat.buffers.items
 
 -- each lane is one
 abbrev pub AreNewSeats : Plan → (ℕ → ℕ) → List Seat → Type 0

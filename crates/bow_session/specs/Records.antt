@@ -9,6 +9,7 @@ use Rattle.bow_history.specs.declared.items.Item.TheVariants as items
 use Rattle.bow_history.specs.Sessions.{lane_of}
 use Rattle.bow_session.specs.declared.seats.Hand.{Hand}
 use Rattle.bow_session.specs.declared.seats.Seat.{Seat}
+use Rattle.bow_session.specs.Buffers.{given_back, kept_of}
 use Rattle.bow_session.specs.Seats.{hands_of}
 
 -- the lane whose request has the ticket
@@ -62,11 +63,12 @@ IsOfLane seats journal moments (Got t i) = IsSmallAt seats (lane_with seats t) �
 IsOfLane seats journal moments (Answered t op outcome) = IsSmallAt seats (lane_with seats t)
     × HasRoomAt seats (lane_with seats t) × (0 < journal) × (0 < moments)
 
--- a lane's request was answered: the buffer is kept, and nothing is in hand
+-- a lane's request was answered: the buffer of a read is kept, that of a write came back, and nothing is in hand
 pub record IsAnswered (op : Op) (old new : Seat) : Type 0 where
   pub pending : new.pending ≡ old.pending
   pub hand : new.hand ≡ None
-  pub answered : new.answered.items ≡ old.answered.items ++ op ∷ []
+  pub answered : new.answered.items ≡ old.answered.items ++ kept_of op ∷ []
+  pub buffers : new.buffers.items ≡ given_back op old.buffers.items
   pub room : old.answered.room ≤ new.answered.room + 1
 
 -- one lane's request was answered, and the other lanes stay

@@ -1,14 +1,12 @@
 -- What a lane has, and when it fits what the script asks.
-use Rattle.std.specs.Prelude.{◌≡◌, ℕ, suc, ◌+◌, ◌<◌, ◌≤◌, ◌^◌, nat_le, Bool, true, List, [], ◌∷◌, length, slice_get, slice_index_or}
-use Rattle.std.specs.Prelude.{map, Option, None, Some, is_none}
+use Rattle.std.specs.Prelude.{◌≡◌, ℕ, suc, ◌+◌, ◌<◌, ◌≤◌, ◌^◌, nat_le, Bool, true, List, [], ◌∷◌, length, slice_get}
+use Rattle.std.specs.Prelude.{Option, None, Some, is_none}
 use Rattle.std.specs.Option.{option_map}
 use Rattle.bow_units.specs.declared.requests.Op.{Op}
-use Rattle.bow_units.specs.declared.requests.Op.TheVariants as ops
 use Rattle.bow_queue.specs.declared.tickets.Ticket.{Ticket}
-use Rattle.bow_machine.specs.MemoryIsSound.{IsAdmissible}
 use Rattle.bow_machine.specs.Steps.{extent_of}
 use Rattle.bow_history.specs.Journal.{Plan}
-use Rattle.bow_history.specs.Sessions.{IsFor}
+use Rattle.bow_session.specs.Buffers.{HasBuffers, IsAskable, IsKeptFor, lent_to}
 use Rattle.bow_session.specs.Sessions.{Lane}
 use Rattle.bow_session.specs.declared.seats.Asked.{Asked}
 use Rattle.bow_session.specs.declared.seats.Hand.{Hand}
@@ -41,6 +39,15 @@ is_from_there low seat = is_none_or_from low (section_in seat)
 abbrev pub is_over : Seat → Bool
 is_over seat = is_none (section_in seat)
 
+-- a request that the device has counts as one
+abbrev pub held_by : Option Hand → ℕ
+held_by None = 0
+held_by (Some hand) = 1
+
+-- how many requests a lane has: answered ones, the one that the device has, and those to come
+abbrev pub requests_with : Seat → ℕ
+requests_with seat = length seat.answered.items + held_by seat.hand + length seat.pending.items
+
 -- the ticket of a request that the device has
 abbrev pub ticket_in : Option Hand → Option Ticket
 ticket_in hand = option_map (λ (h : Hand). h.ticket) hand
@@ -61,14 +68,14 @@ hands_of seats lane = ticket_at (slice_get seats lane)
 -- ----------------------------------------------------------------------------------------------------------------
 -- What fits the plan.
 
--- this is request n of the lane, with its buffer, and the section in which it stands
+-- this is request n of the lane, and the section in which it stands
 pub record IsNext (plan : Plan) (lane n : ℕ) (a : Asked) : Type 0 where
   pub asked : Op
   pub next : plan.request lane n ≡ Some asked
-  pub is : IsFor plan.sizes asked a.op
-  pub whole : IsAdmissible plan.sizes a.op
+  pub buffer : IsKeptFor plan.sizes asked a.buffer
+  pub askable : IsAskable plan.sizes asked
   pub section : a.section ≡ plan.section lane n
-  pub low : (extent_of a.op).first < 2 ^ 32
+  pub low : (extent_of asked).first < 2 ^ 32
 
 -- these are all requests of the lane from n on
 abbrev pub AreNext : Plan → ℕ → ℕ → List Asked → Type 0
@@ -79,8 +86,10 @@ AreNext plan lane n (a ∷ more) = IsNext plan lane n a × AreNext plan lane (su
 pub record IsHeld (plan : Plan) (lane n : ℕ) (h : Hand) : Type 0 where
   pub asked : Op
   pub next : plan.request lane n ≡ Some asked
+  pub askable : IsAskable plan.sizes asked
   pub section : h.section ≡ plan.section lane n
   pub first : h.first ≡ (extent_of asked).first
+  pub lent : h.lent ≡ lent_to asked
   pub low : h.first < 2 ^ 32
 
 -- the requests from n on: the one that the device has, and those to come
@@ -88,15 +97,23 @@ abbrev pub AreLeft : Plan → ℕ → ℕ → Option Hand → List Asked → Typ
 AreLeft plan lane n None pending = AreNext plan lane n pending
 AreLeft plan lane n (Some h) pending = IsHeld plan lane n h × AreNext plan lane (suc n) pending
 
--- an answered request, with its buffer
-pub record IsAnswer (plan : Plan) (lane n : ℕ) (op : Op) : Type 0 where
+-- what is kept of an answered request
+pub record IsAnswer (plan : Plan) (lane n : ℕ) (kept : Option (List ℕ)) : Type 0 where
   pub asked : Op
   pub next : plan.request lane n ≡ Some asked
-  pub is : IsFor plan.sizes asked op
+  pub is : IsKeptFor plan.sizes asked kept
 
--- the answered requests are the lane's first ones, the rest is left, and there is room for the answers of all
+-- how many blocks the request in hand was lent
+abbrev pub lent_with : Option Hand → ℕ
+lent_with None = 0
+lent_with (Some h) = h.lent
+
+-- the answered requests are the lane's first ones, the rest is left, there is room for the answers of all, and a buffer
+-- for each write
 pub record IsSeatFit (plan : Plan) (count lane : ℕ) (seat : Seat) : Type 0 where
-  pub answers : (n : ℕ) (op : Op) → slice_get seat.answered.items n ≡ Some op → IsAnswer plan lane n op
+  pub answers : (n : ℕ) (kept : Option (List ℕ)) → slice_get seat.answered.items n ≡ Some kept
+      → IsAnswer plan lane n kept
   pub left : AreLeft plan lane (length seat.answered.items) seat.hand seat.pending.items
   pub within : length seat.answered.items ≤ count
   pub room : count ≤ length seat.answered.items + seat.answered.room
+  pub buffers : HasBuffers plan.sizes.block_size (lent_with seat.hand) seat.buffers.items

@@ -1,5 +1,5 @@
 // The parts of a session at work: the device, the script, and what is kept beside them.
-ghost use Rattle.std.specs.Prelude.{◌≡◌, ◌+◌, ◌<◌, ◌≤◌, ℕ, List, length, true, None, Some};
+ghost use Rattle.std.specs.Prelude.{◌≡◌, ◌+◌, ◌<◌, ◌≤◌, ℕ, List, length, true, false, None, Some};
 ghost use Rattle.std.specs.Option.{option_map};
 ghost use Rattle.bow_core.specs.Turns.{turn_of as machine_turn};
 ghost use Rattle.bow_history.specs.declared.items.Actor.{Actor};
@@ -7,15 +7,19 @@ ghost use Rattle.bow_history.specs.declared.items.Actor.TheVariants.{Lane};
 ghost use Rattle.bow_history.specs.Ready.{is_actor_ready};
 ghost use Rattle.bow_history.specs.Sessions.{Turned, turn_of, IsActor};
 ghost use Rattle.bow_session.specs.Sessions.{plan_in, state_in};
-ghost use Rattle.bow_session.specs.Turns.{StepsBy};
+ghost use Rattle.bow_session.specs.Turns.{IsOneTurn, StepsBy};
 ghost use Rattle.bow_session.specs.Plays.{Plays};
-ghost use Rattle.bow_session.specs.Requests.{lanes_of};
+ghost use Rattle.bow_session.specs.Requests.{lanes_of, requests_in};
 ghost use Rattle.bow_history.specs.Journal.{Plan};
-ghost use Rattle.bow_history.specs.Schedule.{actor_at, chosen, next_round};
+ghost use Rattle.bow_history.specs.Ends.{actor_in, turns_left};
+ghost use Rattle.bow_history.specs.Schedule.{actor_at, chosen, drawn, next_round};
+ghost use Rattle.bow_units.specs.Draws.{next_number};
 ghost use Rattle.std.specs.List.{list_all};
 
+use crate::lines::line_of;
+use crate::payloads::request;
 use crate::records::Records;
-use crate::seats::{Hand, are_over, first_block, is_from};
+use crate::seats::{Asked, Hand, are_over, first_block, is_from, lent_blocks};
 use bow_core::{Core, Turn};
 use bow_disk::Disk;
 use bow_history::Actor;
@@ -74,11 +78,27 @@ impl<D: Disk, R: Ranges + Drop> Desk<D, R> {
     {
         let mut draws = Draws::new(number);
         while !are_over(&self.records.seats) {
-            let actors = self.records.seats.len() as u32 + 2;
-            let drawn = draws.draw(actors);
-            let actor = self.chosen(drawn);
-            self.step(actor);
+            self.turn(&mut draws);
         }
+    }
+
+    // One step, of the actor who is drawn.
+    pub(crate) fn turn(&mut self, draws: &mut Draws)
+        requires fits { Fits self.old }
+        requires left { list_all is_over self.old.records.seats.items ≡ false }
+        ensures fits { Fits self.new }
+        ensures number { draws.new ≡ next_number draws.old }
+        ensures turn { (turn : Turned) × (actor_in turn ≡ drawn (plan_in (run_of self.old)) (state_in (run_of self.old))
+            draws.old) × IsOneTurn D.stated D.content D.moment D.left_since D.faults (run_of self.old) turn (run_of
+            self.new) }
+        ensures fewer { turns_left (plan_in (run_of self.new)) (requests_in self.new.script) (state_in (run_of
+            self.new)) < turns_left (plan_in (run_of self.old)) (requests_in self.old.script) (state_in (run_of
+            self.old)) }
+    {
+        let actors = self.records.seats.len() as u32 + 2;
+        let drawn = draws.draw(actors);
+        let actor = self.chosen(drawn);
+        self.step(actor);
     }
 
     // The first ready actor from this one on, going round once.
@@ -140,17 +160,27 @@ impl<D: Disk, R: Ranges + Drop> Desk<D, R> {
         ensures turn { StepsBy D.stated D.content D.moment D.left_since D.faults (run_of self.old) (Lane lane) (run_of
             self.new) }
     {
+        let geometry = self.core.geometry();
         let seat = &mut self.records.seats[lane];
-        if let Some(asked) = seat.pending.pop_front() {
-            let section = asked.section;
-            let first = first_block(&asked.op);
-            let ticket = self.core.admit(asked.op);
-            seat.hand = Some(Hand {
-                ticket,
-                section,
-                first,
-            });
-        }
+        let Some(line) = line_of(&self.script, lane, seat.answered.len()) else {
+            return;
+        };
+        let Some(asked) = seat.pending.pop_front() else {
+            return;
+        };
+        let Asked { section, buffer } = asked;
+        let Some(op) = request(line, buffer, &mut seat.buffers, geometry) else {
+            return;
+        };
+        let first = first_block(&op);
+        let lent = lent_blocks(&op);
+        let ticket = self.core.admit(op);
+        seat.hand = Some(Hand {
+            ticket,
+            section,
+            first,
+            lent,
+        });
     }
 
     // The device makes one step, and what it told is noted.

@@ -3,6 +3,7 @@
 #![tactic(auto)]
 
 mod desks;
+mod lines;
 mod loading;
 mod payloads;
 mod records;
@@ -10,8 +11,6 @@ mod reserved;
 mod run_laws;
 mod seats;
 mod sessions;
-#[cfg(test)]
-mod tests;
 
 pub use bow_history::{Actor, Item};
 pub use run_laws::run_law;

@@ -7,13 +7,14 @@ ghost use Rattle.bow_script.specs.Scripts.{IsWithinLimits, IsWellFormed};
 ghost use Rattle.bow_script.specs.declared.scripts.Line.{Line};
 ghost use Rattle.bow_history.specs.Ends.{over_lanes};
 ghost use Rattle.bow_session.specs.Loading.{line_items, lane_items, AreFirst, AreThere, IsNewSeat, AreNewSeats, AreNewRecords};
-ghost use Rattle.bow_session.specs.Requests.{lanes_of, section_lines, plan_of, requests_in};
+ghost use Rattle.bow_session.specs.Requests.{lanes_of, plan_of, requests_in};
 
-use crate::payloads::op_of;
+use crate::lines::lines_of;
+use crate::payloads::{read_buffer, take_buffers};
 use crate::records::Records;
 use crate::reserved::Reserved;
 use crate::seats::{Asked, Seat};
-use bow_script::{Line, Script, Section};
+use bow_script::{Line, Script};
 use bow_units::{Geometry, NoMemory};
 use std::alloc::Global;
 use std::collections::VecDeque;
@@ -66,18 +67,6 @@ fn lanes_of(script: &Script) -> usize
     lanes
 }
 
-// The lines of a lane in a section.
-fn lines_of(section: &Section, lane: usize) -> &[Line]
-    ensures { result.now ≡ section_lines section.now lane }
-{
-    if lane < section.lanes.len() {
-        let lane = &section.lanes[lane];
-        &lane.lines
-    } else {
-        &[]
-    }
-}
-
 // A lane before its first step.
 fn seat_of(
     alloc: Global,
@@ -103,10 +92,12 @@ fn seat_of(
         number += 1;
     }
     let answered = Reserved::with_room(alloc, pending.len())?;
+    let buffers = take_buffers(alloc, geometry.block_size)?;
     Ok(Seat {
         pending,
         hand: None,
         answered,
+        buffers,
     })
 }
 
@@ -127,8 +118,8 @@ fn add_requests(
         → AreFirst (plan_of geometry script) lane pending.new.items) }
 {
     for line in lines {
-        let op = op_of(alloc, line, geometry)?;
-        pending.push_back(Asked { section, op })?;
+        let buffer = read_buffer(alloc, line, geometry)?;
+        pending.push_back(Asked { section, buffer })?;
     }
     Ok(())
 }

@@ -1,44 +1,84 @@
-// The requests of a script's lines, with their buffers.
-ghost use Rattle.std.specs.Prelude.{◌≡◌, ◌+◌, ◌*◌, ◌-◌, ◌<◌, ◌≤◌, ◌^◌, ◌++◌, ℕ, List, length, replicate, IfOk};
+// The buffers of a lane, and its requests with them.
+ghost use Rattle.std.specs.Prelude.{◌≡◌, ◌+◌, ◌*◌, ◌-◌, ◌<◌, ◌≤◌, ◌^◌, ◌++◌, ℕ, List, length, replicate, take, drop, IfOk, None, slice_index_or, slice_set, MatchOption};
+ghost use Rattle.bow_units.specs.Pattern.{pattern};
 ghost use Rattle.bow_units.specs.Sizes.{IsValid, IsBlockSize};
 ghost use Rattle.bow_script.specs.Grammar.{IsFitting};
-ghost use Rattle.bow_machine.specs.MemoryIsSound.{IsAdmissible};
-ghost use Rattle.bow_machine.specs.Steps.{extent_of};
-ghost use Rattle.bow_history.specs.Sessions.{IsFor};
+ghost use Rattle.bow_session.specs.Buffers.{HasBuffers, IsKeptFor, with_buffer, without_lent};
 ghost use Rattle.bow_session.specs.Requests.{written, patterns, request_of};
 
 use bow_script::Line;
 use bow_units::{Extent, Geometry, NoMemory, Op, Payload, fill_pattern};
-use std::alloc::{AllocError, Global};
+use std::alloc::Global;
 
-// The request of a line, for a device of this geometry. A `write` has the patterns of its blocks, or
-// zeros where one of them is on no device; a `writehex` has its bytes and then zeros; a read has a
-// buffer of zeros.
-pub(crate) fn op_of(alloc: Global, line: &Line, geometry: Geometry) -> Result<Op, NoMemory>
+// A buffer for a write of each number of blocks up to 16, by that number.
+pub(crate) fn take_buffers(alloc: Global, size: u32) -> Result<Vec<Option<Payload>>, NoMemory>
+    requires { IsBlockSize size }
+    ensures { IfOk result (λ v. HasBuffers size 0 v.items) }
+{
+    let mut buffers = Vec::new(alloc);
+    for count in 0..17u32 {
+        let bytes = vec![in alloc; 0u8; count as usize * size as usize]?;
+        buffers.push(Some(Payload::new(bytes)))?;
+    }
+    Ok(buffers)
+}
+
+// The buffer of a read, of zeros.
+pub(crate) fn read_buffer(
+    alloc: Global,
+    line: &Line,
+    geometry: Geometry,
+) -> Result<Option<Payload>, NoMemory>
     requires numbers { IsFitting line.now }
     requires valid { IsValid geometry }
-    ensures is { IfOk result (λ op. IsFor geometry (request_of geometry.block_size line.now) op) }
-    ensures admissible { IfOk result (λ op. IsAdmissible geometry op) }
-    ensures low { IfOk result (λ op. (extent_of op).first < 2 ^ 32) }
+    ensures { IfOk result (λ b. IsKeptFor geometry (request_of geometry.block_size line.now) b) }
+{
+    match line {
+        Line::Read { count, .. } => {
+            let bytes = vec![in alloc; 0u8; *count as usize * geometry.block_size as usize]?;
+            Ok(Some(Payload::new(bytes)))
+        }
+        Line::Write { .. }
+        | Line::WriteHex { .. }
+        | Line::Discard { .. }
+        | Line::Flush
+        | Line::Prepare
+        | Line::Commit => Ok(None),
+    }
+}
+
+// The request of a line, for a device of this geometry: a read has its own buffer; a write has one of the lane's,
+// filled with the patterns of its blocks, or with zeros where one of them is on no device, or with its bytes and then
+// zeros.
+pub(crate) fn request(
+    line: &Line,
+    own: Option<Payload>,
+    buffers: &mut Vec<Option<Payload>>,
+    geometry: Geometry,
+) -> Option<Op>
+    requires numbers { IsFitting line.now }
+    requires valid { IsValid geometry }
+    requires own { IsKeptFor geometry (request_of geometry.block_size line.now) own }
+    requires buffers { HasBuffers geometry.block_size 0 buffers.old.items }
+    ensures is { MatchOption result ⊥ (λ op. op ≡ with_buffer (request_of geometry.block_size line.now) own) }
+    ensures buffers { buffers.new.items ≡ without_lent (request_of geometry.block_size line.now) buffers.old.items }
 {
     let size = geometry.block_size;
     match line {
         Line::Write { first, count, seed } => {
-            let bytes = written_bytes(alloc, size, *first, *count, *seed)?;
-            Ok(Op::Write(extent(*first, *count), Payload::new(bytes)))
+            let buffer = lend(buffers, *count)?;
+            let payload = patterned(buffer, size, *first, *count, *seed);
+            Some(Op::Write(extent(*first, *count), payload))
         }
         Line::WriteHex { first, bytes } => {
-            let block = filled_block(alloc, bytes.as_slice(), size)?;
-            Ok(Op::Write(extent(*first, 1), Payload::new(block)))
+            let buffer = lend(buffers, 1)?;
+            Some(Op::Write(extent(*first, 1), begun_with(buffer, bytes.as_slice())))
         }
-        Line::Read { first, count } => {
-            let bytes = vec![in alloc; 0u8; *count as usize * size as usize]?;
-            Ok(Op::Read(extent(*first, *count), Payload::new(bytes)))
-        }
-        Line::Discard { first, count } => Ok(Op::Discard(extent(*first, *count))),
-        Line::Flush => Ok(Op::Flush),
-        Line::Prepare => Ok(Op::Prepare),
-        Line::Commit => Ok(Op::Commit),
+        Line::Read { first, count } => Some(Op::Read(extent(*first, *count), own?)),
+        Line::Discard { first, count } => Some(Op::Discard(extent(*first, *count))),
+        Line::Flush => Some(Op::Flush),
+        Line::Prepare => Some(Op::Prepare),
+        Line::Commit => Some(Op::Commit),
     }
 }
 
@@ -51,54 +91,80 @@ fn extent(first: u32, count: u32) -> Extent
     }
 }
 
-// What a `write` line writes.
-fn written_bytes(
-    alloc: Global,
-    size: u32,
-    first: u32,
-    count: u32,
-    seed: u32,
-) -> Result<Vec<u8>, AllocError>
+// The buffer of so many blocks, which the lane then does not have.
+fn lend(buffers: &mut Vec<Option<Payload>>, count: u32) -> Option<Payload>
+    requires { count < length buffers.old.items }
+    ensures value { result ≡ slice_index_or buffers.old.items count None }
+    ensures after { buffers.new.items ≡ slice_set buffers.old.items count None }
+{
+    buffers[count as usize].take()
+}
+
+// The buffer with what a `write` line writes.
+fn patterned(buffer: Payload, size: u32, first: u32, count: u32, seed: u32) -> Payload
     requires few { count ≤ 16 }
     requires size { IsBlockSize size }
-    ensures is { IfOk result (λ v. v.items ≡ written size first count seed) }
-    ensures len { IfOk result (λ v. length v.items ≡ count * size) }
+    requires long { length buffer ≡ count * size }
+    ensures { result ≡ written size first count seed }
 {
+    let Payload { mut bytes } = buffer;
     if first as u64 + count as u64 > 1_048_576 {
-        return vec![in alloc; 0u8; count as usize * size as usize];
+        bytes.fill(0);
+    } else {
+        fill_patterns(&mut bytes, size, first, count, seed);
     }
-    pattern_bytes(alloc, size, first, count, seed)
+    Payload::new(bytes)
 }
 
 // The patterns of blocks that a device may have.
-fn pattern_bytes(
-    alloc: Global,
-    size: u32,
-    first: u32,
-    count: u32,
-    seed: u32,
-) -> Result<Vec<u8>, AllocError>
+fn fill_patterns(bytes: &mut Vec<u8>, size: u32, first: u32, count: u32, seed: u32)
     requires few { count ≤ 16 }
     requires on { first + count ≤ 1048576 }
     requires size { IsBlockSize size }
-    ensures is { IfOk result (λ v. v.items ≡ patterns size first count seed) }
-    ensures len { IfOk result (λ v. length v.items ≡ count * size) }
+    requires long { length bytes.old.items ≡ count * size }
+    ensures { bytes.new.items ≡ patterns size first count seed }
 {
-    let mut block = vec![in alloc; 0u8; size as usize]?;
-    let mut bytes = Vec::with_capacity(alloc, count as usize * size as usize)?;
     for i in 0..count {
-        fill_pattern((first + i) as u64, seed, &mut block);
-        bytes.extend_from_slice(&block)?;
+        fill_slot(bytes, size as usize, i, (first + i) as u64, seed);
     }
-    Ok(bytes)
 }
 
-// These bytes, and zeros up to the size of a block.
-fn filled_block(alloc: Global, bytes: &[u8], size: u32) -> Result<Vec<u8>, AllocError>
-    requires { length bytes.now ≤ size }
-    ensures { IfOk result (λ v. v.items ≡ bytes.now ++ replicate (size - length bytes.now) 0) }
+// The pattern of a block, in the slot of this number.
+fn fill_slot(bytes: &mut Vec<u8>, size: usize, slot: u32, block: u64, seed: u32)
+    requires few { slot < 16 }
+    requires on { block < 1048576 }
+    requires size { IsBlockSize size }
+    requires room { (slot + 1) * size ≤ length bytes.old.items }
+    ensures len { length bytes.new.items ≡ length bytes.old.items }
+    ensures front { take (slot * size) bytes.new.items ≡ take (slot * size) bytes.old.items }
+    ensures here { take size (drop (slot * size) bytes.new.items) ≡ pattern block seed size }
 {
-    let mut block = Vec::from_slice(alloc, bytes)?;
-    block.resize(size as usize, 0)?;
-    Ok(block)
+    let start = slot as usize * size;
+    fill_pattern(block, seed, &mut bytes[start..start + size]);
+}
+
+// The buffer with these bytes, and zeros behind them.
+fn begun_with(buffer: Payload, text: &[u8]) -> Payload
+    requires { length text.now ≤ length buffer }
+    ensures { result ≡ text.now ++ replicate (length buffer - length text.now) 0 }
+{
+    let Payload { mut bytes } = buffer;
+    put_front(&mut bytes, text);
+    clear_from(&mut bytes, text.len());
+    Payload::new(bytes)
+}
+
+fn put_front(bytes: &mut [u8], text: &[u8])
+    requires { length text.now ≤ length bytes.old }
+    ensures len { length bytes.new ≡ length bytes.old }
+    ensures front { take (length text.now) bytes.new ≡ text.now }
+{
+    bytes[0..text.len()].copy_from_slice(text);
+}
+
+fn clear_from(bytes: &mut Vec<u8>, at: usize)
+    requires { at ≤ length bytes.old.items }
+    ensures { bytes.new.items ≡ take at bytes.old.items ++ replicate (length bytes.old.items - at) 0 }
+{
+    bytes[at..].fill(0);
 }

@@ -1,10 +1,8 @@
-use Rattle.std.proofs.Common.{◌≡◌, ℕ, suc, ◌+◌, ◌<◌, ◌≤◌, List, length, take, Some, refl, sym, ap, ◌∙◌, subst, arith}
-use Rattle.std.specs.Prelude.{slice_get}
+use Rattle.std.proofs.Common.{◌≡◌, suc, ◌+◌, ◌≤◌, length, take, refl, ap, ◌∙◌, arith}
 use Rattle.std.specs.List.{sum_by}
 use Rattle.std.proofs.lemmas.Option.{slice_get_read}
-use Rattle.bow_script.specs.declared.scripts.Line.{Line}
 use Rattle.bow_session.specs.Loading.{line_items, lane_items}
-use Rattle.bow_session.specs.Requests.{section_lines, lane_lines}
+use Rattle.bow_session.specs.Requests.{lane_lines}
 use Rattle.bow_session.proofs.Loads.{more_items, few_with, few_items, taken_all}
 use Rattle.bow_session.proofs.loading.items_in_lane.Goals as goal
 

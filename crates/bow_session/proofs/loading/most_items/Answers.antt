@@ -1,4 +1,4 @@
-use Rattle.std.proofs.Common.{◌≡◌, ◌+◌, ◌<◌, ◌≤◌, ◌^◌, arith}
+use Rattle.std.proofs.Common.{◌+◌, ◌≤◌, arith}
 use Rattle.bow_session.proofs.Loads.{few_items, lanes_below}
 use Rattle.bow_session.specs.Loading.{lane_items}
 use Rattle.bow_session.proofs.loading.most_items.Goals as goal

@@ -1,4 +1,4 @@
-use Rattle.std.proofs.Common.{◌≡◌, ◌+◌, ◌≤◌, ◌∷◌, [], List, length, refl, sym, ap, ◌∙◌, subst, arith, rules}
+use Rattle.std.proofs.Common.{◌≡◌, ◌≤◌, List, length, refl, sym, ◌∙◌, subst, arith, rules}
 use Rattle.std.specs.List.{All}
 use Rattle.std.proofs.lemmas.Option.{slice_get_read}
 use Rattle.bow_script.specs.Grammar.{IsFitting}
@@ -33,4 +33,4 @@ returns c =
     let old = c.loop-section.invariant in
     let w = lane_whole c.args.geometry c.args.script.now items c.args.lane c.loop-section.section-index c.loop-section.pending.items same past old.1 old.2 in
     let len : c.len.result ≡ length c.loop-section.pending.items = search rules in
-    record { hand = refl; answered = (c.in_ok-answered.ensures).empty; room = (c.in_ok-answered.ensures).room ∙ len ∙ w.1; pending = w.0; many = w.1 }
+    record { hand = refl; answered = (c.in_ok-answered.ensures).empty; room = (c.in_ok-answered.ensures).room ∙ len ∙ w.1; pending = w.0; many = w.1; buffers = c.in_ok-buffers.ensures }

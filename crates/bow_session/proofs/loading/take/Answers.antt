@@ -1,4 +1,4 @@
-use Rattle.std.proofs.Common.{◌≡◌, ◌≤◌, arith}
+use Rattle.std.proofs.Common.{arith}
 use Rattle.bow_session.proofs.Loads.{few_lanes}
 use Rattle.bow_session.proofs.loading.take.Goals as goal
 

@@ -1,4 +1,4 @@
-use Rattle.std.proofs.Common.{◌≡◌, ◌+◌, ◌++◌, ◌∷◌, [], ℕ, List, length, sym, ap, ◌∙◌, subst, arith, length-append}
+use Rattle.std.proofs.Common.{◌≡◌, ◌++◌, ◌∷◌, [], List, length, sym, ap, subst, arith, length-append}
 use Rattle.bow_session.specs.declared.seats.Seat.{Seat}
 use Rattle.bow_session.specs.Loading.{IsNewSeat, AreNewSeats}
 use Rattle.bow_session.specs.Requests.{plan_of, requests_in}

@@ -1,10 +1,6 @@
 use Rattle.std.proofs.Common.{length, refl}
 use Rattle.std.proofs.lemmas.Option.{slice_get_read}
 use Rattle.bow_session.proofs.Changed.{answered_one}
-use Rattle.bow_session.proofs.Told.{told_lanes}
-use Rattle.bow_session.proofs.Going.{told_item}
-use Rattle.bow_session.proofs.Plans.{at_most}
-use Rattle.bow_session.proofs.Laws.{has_place}
 use Rattle.bow_session.proofs.records.answer.Goals as goal
 
 pub returns : goal.returns

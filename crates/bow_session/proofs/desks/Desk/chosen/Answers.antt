@@ -1,4 +1,4 @@
-use Rattle.std.proofs.Common.{◌≡◌, ◌-◌, length, refl, sym, ap, arith, rules, ◌∙◌}
+use Rattle.std.proofs.Common.{◌≡◌, ◌-◌, length, sym, ap, arith, rules, ◌∙◌}
 use Rattle.bow_history.specs.Ready.{is_actor_ready}
 use Rattle.bow_history.specs.Schedule.{actor_at, first_ready}
 use Rattle.bow_session.specs.Desks.{run_of}

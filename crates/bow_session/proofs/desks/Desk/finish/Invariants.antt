@@ -1,4 +1,4 @@
-use Rattle.std.proofs.Common.{◌≡◌, ℕ, List}
+use Rattle.std.proofs.Common.{List}
 use Rattle.bow_history.specs.Sessions.{Turned}
 use Rattle.bow_history.specs.Ends.{turns_left}
 use Rattle.bow_session.specs.Desks.{Fits, run_of}

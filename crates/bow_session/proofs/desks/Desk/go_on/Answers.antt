@@ -1,4 +1,4 @@
-use Rattle.std.proofs.Common.{◌≡◌, ◌++◌, refl, ap, sym, ◌∙◌}
+use Rattle.std.proofs.Common.{◌++◌, refl, ap, ◌∙◌}
 use Rattle.bow_history.specs.Promises.{more}
 use Rattle.bow_session.specs.Records.{item_told}
 use Rattle.bow_session.proofs.Turned.{is_of_lane, one_turn, fits_after}

@@ -1,4 +1,4 @@
-use Rattle.std.proofs.Common.{◌≡◌, ◌<◌, length, refl, sym, ap, arith, Some, None, List, ◌∙◌}
+use Rattle.std.proofs.Common.{◌<◌, length, refl, sym, ap, arith, Some, None, List, ◌∙◌}
 use Rattle.std.specs.List.{list_all}
 use Rattle.std.proofs.lemmas.Option.{slice_get_read}
 use Rattle.bow_session.specs.declared.seats.Seat.{Seat}

@@ -1,4 +1,4 @@
-use Rattle.std.proofs.Common.{◌≡◌, ◌<◌, length, arith, ap, sym, rules}
+use Rattle.std.proofs.Common.{length, arith, ap}
 use Rattle.bow_session.proofs.sessions.Session.moment.Goals as goal
 
 pub bounds-as_slice-item : goal.bounds-as_slice-item

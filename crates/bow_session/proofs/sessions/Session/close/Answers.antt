@@ -1,0 +1,20 @@
+use Rattle.std.proofs.Common.{◌+◌, ◌≤◌, arith, sym, subst}
+use Rattle.bow_session.specs.Desks.{run_of}
+use Rattle.bow_session.specs.Leads.{requests_of, taken_by}
+use Rattle.bow_session.specs.Requests.{lanes_of}
+use Rattle.bow_session.specs.Sessions.{IsOver, Run, state_in}
+use Rattle.bow_session.proofs.Cutting.{sound_is_idle}
+use Rattle.bow_session.proofs.Taking.{taken_few}
+use Rattle.bow_session.proofs.sessions.Session.close.Goals as goal
+
+pub returns-clause-idle : goal.returns-clause-idle
+returns-clause-idle g c over =
+    let s = c.self.inside.desk in
+    sound_is_idle (run_of s) c.self.invariant.sound (subst IsOver (sym c.self.view_is) over)
+
+pub returns-clause-admitted : goal.returns-clause-admitted
+returns-clause-admitted g c first k =
+    let s = c.self.inside.desk in
+    let low = subst (λ (v : Run g.row.D.Denot). v.core.admitted ≤ first.admitted + taken_by (state_in v) (lanes_of v.script)) (sym c.self.view_is) k.admitted in
+    let few = taken_few s c.self.invariant in
+    subst (λ (v : Run g.row.D.Denot). s.core.admitted ≤ first.admitted + requests_of v.script) c.self.view_is (omega (arith, low, few))

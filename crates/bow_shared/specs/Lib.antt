@@ -1,0 +1,5 @@
+pub mod Desks
+pub mod Ends
+pub mod Hands
+pub mod Serving
+pub mod Works
