@@ -1,8 +1,10 @@
 //! The program `bow`: Android's User Data Checkpoint for block devices, over an image in a file.
 //!
-//! `bow IMAGE ATTEMPTS BLOCK play NUMBER` reads a script from standard input, runs its requests over the image, and
-//! writes the transcript to standard output. `bow IMAGE ATTEMPTS BLOCK check` reads the image alone, and writes the
-//! lines of its chain of logs and `sound`, or `no log`, or what is wrong. It ends with the status of `bow_tool::tool`.
+//! `bow IMAGE ATTEMPTS BLOCK COMMAND` does what the command asks for, with the number of attempts that is kept in the
+//! file ATTEMPTS: `play NUMBER` runs the script of standard input over the image; `restore`, `check` and `forward` work
+//! on the checkpoint that the image keeps; `start N`, `mark`, `abort`, `needs-checkpoint` and `needs-rollback` work on
+//! the attempts; and `boot` does what a phone does as it boots. What it tells goes to standard output. It ends with the
+//! status of `bow_tool::tool`.
 #![tactic(auto)]
 
 use bow_disk::FileDisk;
@@ -10,6 +12,7 @@ use bow_tool::tool;
 use bow_units::{NoMemory, ReadSource, WriteSink};
 use std::io;
 use std::process::ExitCode;
+use vold_meta::FileKeeper;
 
 fn main(rt: HostRuntime) -> ExitCode {
     match run(&rt) {
@@ -29,6 +32,10 @@ fn run(rt: &HostRuntime) -> Result<u8, NoMemory> {
         Some(path) => path.clone()?,
         None => String::new(alloc),
     };
+    let attempts = match words.get(1) {
+        Some(path) => path.clone()?,
+        None => String::new(alloc),
+    };
     let block_size = match words.get(2) {
         Some(word) => block_size(word.as_str()),
         None => 512,
@@ -37,9 +44,13 @@ fn run(rt: &HostRuntime) -> Result<u8, NoMemory> {
         return Err(NoMemory);
     };
     let disk = FileDisk::new(files, image, block_size);
+    let Ok(files) = rt.clone() else {
+        return Err(NoMemory);
+    };
+    let keeper = FileKeeper::new(alloc, files, attempts)?;
     let mut source = ReadSource::new(rt.reader());
     let mut sink = WriteSink::new(io::writer(rt));
-    Ok(tool(alloc, &words, disk, &mut source, &mut sink).status)
+    Ok(tool(alloc, &words, disk, keeper, &mut source, &mut sink).status)
 }
 
 // The words after the program's name, and none where one of them is no text.

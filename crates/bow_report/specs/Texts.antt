@@ -1,4 +1,4 @@
--- The lines of a transcript.
+-- The lines of a transcript, and of a status.
 use Rattle.std.specs.Prelude.{ℕ, List, ◌++◌, codes}
 use Rattle.std.specs.List.{flat_map}
 use Rattle.std.specs.Fmt.{decimal}
@@ -6,11 +6,12 @@ use Rattle.bow_units.specs.declared.requests.Outcome.{Outcome}
 use Rattle.bow_units.specs.declared.requests.Outcome.TheVariants as outcomes
 use Rattle.bow_units.specs.declared.requests.Phase.{Phase}
 use Rattle.bow_units.specs.declared.requests.Phase.TheVariants.{Trim, Arming, Checkpoint, Deciding, Committed}
+use Rattle.bow_units.specs.declared.statuses.Status.{Status}
 use Rattle.bow_units.specs.Contents.{content_text}
-use Rattle.bow_plain_session.specs.declared.journals.Item.{Item}
-use Rattle.bow_plain_session.specs.declared.journals.Item.TheVariants.{Wrote, Got, Answered}
-use Rattle.bow_plain_session.specs.Contents.{content_in}
-use Rattle.bow_plain_session.specs.Journal.{Asked}
+use Rattle.bow_history.specs.declared.items.Item.{Item}
+use Rattle.bow_history.specs.declared.items.Item.TheVariants.{Wrote, Got, Answered}
+use Rattle.bow_history.specs.Journal.{Plan, Buffers}
+use Rattle.bow_session.specs.Contents.{content_in}
 
 -- a phase as a line has it
 abbrev pub phase_text : Phase → List ℕ
@@ -40,6 +41,11 @@ item_line (Got lane number block) content = decimal lane ++ codes "." ++ decimal
 item_line (Answered lane number outcome) content = decimal lane ++ codes "." ++ decimal number ++ codes " "
     ++ outcome_text outcome ++ codes "\n"
 
--- one line for each item, in order
-abbrev pub transcript_text : Asked → List Item → List ℕ
-transcript_text asked items = flat_map (λ item. item_line item (content_in asked item)) items
+-- one line for each item, in order; what was read stands in the buffers of the requests that are asked
+abbrev pub transcript_text : Plan → Buffers → List Item → List ℕ
+transcript_text plan buffer items = flat_map (λ item. item_line item (content_in plan buffer item)) items
+
+-- the line of a status, with its line feed
+unfoldable pub status_text : Status → List ℕ
+status_text s = codes "phase " ++ phase_text s.phase ++ codes " free " ++ decimal s.free ++ codes " sequence "
+    ++ decimal s.sequence ++ codes " entries " ++ decimal s.entries ++ codes "\n"

@@ -1,4 +1,5 @@
-//! The texts that the program writes: the transcript of a session, and the lines of a chain of logs.
+//! The texts that the program writes: the transcript of a session, the line of a status, and the lines of a chain of
+//! logs.
 #![tactic(auto)]
 
 mod chains;
@@ -6,4 +7,5 @@ mod lines;
 mod transcripts;
 
 pub use chains::{ChainFaultText, LogFaultText, chain_lines};
+pub use lines::{item_line, status_line};
 pub use transcripts::transcript;

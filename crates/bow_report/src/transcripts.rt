@@ -1,23 +1,27 @@
 // The transcript of a session.
 ghost use Rattle.std.specs.Prelude.{◌≡◌, ◌++◌, IfOk, OnOk};
 ghost use Rattle.std.specs.String.{string_bytes};
-ghost use Rattle.bow_plain_session.specs.Contents.{AreTold, HasContent, IsGot, asked_in, content_in};
+ghost use Rattle.bow_session.specs.Contents.{content_in};
+ghost use Rattle.bow_session.specs.Sessions.{plan_in, state_in};
 ghost use Rattle.bow_report.specs.Texts.{item_line, transcript_text};
 
-use crate::lines::{push_done, push_got};
+use crate::lines::push_item;
 use bow_disk::Disk;
-use bow_plain_session::{Item, Session};
+use bow_ranges::Ranges;
+use bow_session::{Item, Session};
 use bow_units::NoMemory;
 use std::alloc::Global;
 
-/// The transcript of a session: one line for each item of its journal, in order.
+/// The transcript of a session: one line for each item of its journal, in order. A block that was read is told with
+/// what the buffer of its request has of it once that is answered, and before as zeros.
 ///
 /// `NoMemory` is answered where there is no memory for the text.
-///
-/// Condition: each read of which the journal has a block is answered.
-pub fn transcript<D: Disk>(alloc: Global, session: &Session<D>) -> Result<Vec<u8>, NoMemory>
-    requires { AreTold session.now }
-    ensures { IfOk result (λ text. text.items ≡ transcript_text (asked_in session.now) session.now.journal) }
+pub fn transcript<D: Disk, R: Ranges + Drop>(
+    alloc: Global,
+    session: &Session<D, R>,
+) -> Result<Vec<u8>, NoMemory>
+    ensures { IfOk result (λ text. text.items
+        ≡ transcript_text (plan_in session.now) (state_in session.now).kept session.now.journal) }
 {
     let mut text = String::new(alloc);
     for item in session.journal() {
@@ -27,21 +31,13 @@ pub fn transcript<D: Disk>(alloc: Global, session: &Session<D>) -> Result<Vec<u8
 }
 
 // Adds the line of an item of the session's journal.
-fn push_told<D: Disk>(out: &mut String, session: &Session<D>, item: Item) -> Result<(), NoMemory>
-    requires { IsGot item → HasContent session.now item }
+fn push_told<D: Disk, R: Ranges + Drop>(
+    out: &mut String,
+    session: &Session<D, R>,
+    item: Item,
+) -> Result<(), NoMemory>
     ensures { OnOk result (string_bytes out.new ≡ string_bytes out.old
-        ++ item_line item (content_in (asked_in session.now) item)) }
+        ++ item_line item (content_in (plan_in session.now) (state_in session.now).kept item)) }
 {
-    let Item::Got {
-        lane,
-        number,
-        block,
-    } = item
-    else {
-        return push_done(out, item);
-    };
-    match session.content(item) {
-        Some(content) => push_got(out, lane, number, block, content),
-        None => unreachable!(),
-    }
+    push_item(out, item, session.content(item))
 }

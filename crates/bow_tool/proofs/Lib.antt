@@ -1,4 +1,6 @@
-pub mod Checking
-pub mod Commands
-pub mod Playing
+mod Booting
+mod Checking
+mod Imaging
+mod Playing
+mod Telling
 mod Transfers

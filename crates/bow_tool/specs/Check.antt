@@ -1,5 +1,5 @@
 -- What a check did: what it says, and why it was refused.
-use Rattle.std.specs.Prelude.{◌≡◌, ◌⊎◌, ℕ, ◌≤◌, List, ◌∷◌, ◌++◌, map, codes, Option, Some}
+use Rattle.std.specs.Prelude.{◌≡◌, ◌⊎◌, ℕ, List, ◌∷◌, ◌++◌, map, codes, Option, Some}
 use Rattle.bow_units.specs.declared.sizes.Geometry.{Geometry}
 use Rattle.bow_units.specs.Sizes.{IsValid}
 use Rattle.bow_units.specs.Causes.{Rose}
@@ -14,21 +14,16 @@ use Rattle.bow_chain.specs.declared.faults.ChainFault.TheVariants as chains
 use Rattle.bow_report.specs.Chains.{chain_text}
 use Rattle.bow_tool.specs.declared.refusals.Refusal.{Refusal}
 use Rattle.bow_tool.specs.declared.refusals.Refusal.TheVariants.{DiskFault, BadChain, NoMemory, BadGeometry}
-use Rattle.bow_tool.specs.Outside.{Outside}
+use Rattle.bow_disk.specs.Moments.{AddsNoCut}
+use Rattle.bow_tool.specs.Outside.{Call, SourceLeft, KeeperLeft}
 
--- Time goes on, and what a cut since an earlier moment leaves now is what it might have left before.
-pub record LeavesTheSame (old new : Outside) : Type 0 where
-  pub time : old.moment ≤ new.moment
-  pub only : (t : ℕ) (image : List (List ℕ)) → t ≤ old.moment → new.left_since t image → old.left_since t image
-  pub keeps : (t : ℕ) (image : List (List ℕ)) → t ≤ old.moment → old.left_since t image → new.left_since t image
-
--- The source was not asked, and nothing but reads was made on the disk: what it tells is the same, and a cut leaves
--- nothing that it might not have left before.
-pub record OnlyReads (old new : Outside) : Type 0 where
-  pub left : new.left ≡ old.left
-  pub source_faults : new.source_faults ≡ old.source_faults
-  pub content : Goes Same old.content new.content
-  pub cuts : (c : Content) → old.content ≡ Some c → LeavesTheSame old new
+-- Nothing but the disk was asked, and of it nothing but its sizes and reads: what it tells is the same, and a cut
+-- leaves nothing that it might not have left before.
+pub record OnlyReads (c : Call) : Type 0 where
+  pub source : SourceLeft c
+  pub keeper : KeeperLeft c
+  pub content : Goes Same (c.disks.content c.disk) (c.disks.content c.disk_after)
+  pub cuts : AddsNoCut c.disks.content c.disks.moment c.disks.left_since c.disk c.disk_after
 
 -- the lines of these logs, the newest first, and `sound`
 abbrev pub sound_text : Geometry → List Generation → List ℕ
@@ -79,22 +74,24 @@ Finds stated content before now NoMemory = Unit {0}
 Finds stated content before now refusal = ⊥
 
 -- a check that was made, with this text
-abbrev pub CheckText : Outside → Outside → List ℕ → Type 0
-CheckText old new text = OnlyReads old new × OfImage new.stated old.content (λ g image. TellsChain g image text)
+abbrev pub CheckText : Call → List ℕ → Type 0
+CheckText c text = OnlyReads c × OfImage (c.disks.stated c.disk_after) (c.disks.content c.disk)
+    (λ g image. TellsChain g image text)
 
 -- why a check that was asked for is refused
-abbrev pub CheckCause : Outside → Outside → Refusal → Type 0
-CheckCause old new refusal = OnlyReads old new × Finds new.stated old.content old.disk_faults new.disk_faults refusal
+abbrev pub CheckCause : Call → Refusal → Type 0
+CheckCause c refusal = OnlyReads c × Finds (c.disks.stated c.disk_after) (c.disks.content c.disk)
+    (c.disks.faults c.disk) (c.disks.faults c.disk_after) refusal
 
 -- the image is sound, or block 0 begins with neither magic
 abbrev pub IsFine : Geometry → Contents → Type 0
 IsFine g image = ((log : Generation) × (older : List Generation) × IsSound g image log older) ⊎ (HasMagic (image 0) → ⊥)
 
--- Nothing outside stands in the way of a check: the disk tells its content, states valid sizes, and no call of it
--- fails; and the image is sound or holds no log.
-pub record CheckInOrder (old new : Outside) : Type 0 where
+-- Nothing outside stands in the way of a check or a restoration: the disk tells its content, states valid sizes, and no
+-- call of it fails; and the image is sound or holds no log.
+pub record ImageInOrder (c : Call) : Type 0 where
   pub content : Content
-  pub told : old.content ≡ Some content
-  pub sizes : (g : Geometry) → new.stated ≡ Some g → IsValid g
-  pub fine : (g : Geometry) → new.stated ≡ Some g → IsFine g (contents_of content.now)
-  pub disk : Rose old.disk_faults new.disk_faults → ⊥
+  pub told : c.disks.content c.disk ≡ Some content
+  pub sizes : (g : Geometry) → c.disks.stated c.disk_after ≡ Some g → IsValid g
+  pub fine : (g : Geometry) → c.disks.stated c.disk_after ≡ Some g → IsFine g (contents_of content.now)
+  pub disk : Rose (c.disks.faults c.disk) (c.disks.faults c.disk_after) → ⊥

@@ -1,55 +1,172 @@
 -- What a call of the program did, by what its words asked for.
-use Rattle.std.specs.Prelude.{◌≡◌, ◌⊎◌, ℕ, List, String}
+use Rattle.std.specs.Prelude.{◌≡◌, ◌⊎◌, ℕ, ◌≤◌, List, Option, None, Some, String, take}
 use Rattle.std.specs.declared.alloc.Global.{Global}
-use Rattle.bow_tool.specs.declared.words.Command.{Command}
-use Rattle.bow_tool.specs.declared.words.Command.TheVariants.{Play, Check}
+use Rattle.std.specs.Io.KnownBytes.{Appends}
+use Rattle.bow_units.specs.declared.sizes.Geometry.{Geometry}
+use Rattle.bow_units.specs.Sizes.{IsValid}
+use Rattle.bow_units.specs.Causes.{Rose}
+use Rattle.bow_disk.specs.Disk.{Content}
+use Rattle.bow_log.specs.Faults.{header_fault}
+use Rattle.bow_log.specs.declared.faults.LogFault.TheVariants.{NoMagic}
+use Rattle.bow_chain.specs.Contents.{Contents, contents_of}
+use Rattle.bow_chain.specs.Kept.{IsPlain}
+use Rattle.bow_restore.specs.Forwarding.{named_by}
+use Rattle.vold_commands.specs.Attempts.{marked, aborted, needs_checkpoint, needs_rollback, most_retries}
+use Rattle.bow_restore.specs.Limits.{IsLimit}
+use Rattle.bow_words.specs.declared.commands.Command.{Command}
+use Rattle.bow_words.specs.declared.commands.Command.TheVariants.{Play, Restore, Check, Forward, Start, Mark, NeedsCheckpoint, NeedsRollback, Abort, Boot}
+use Rattle.bow_words.specs.Words.{Asks}
+use Rattle.bow_tool.specs.declared.outcomes.Outcome.{Outcome}
+use Rattle.bow_tool.specs.declared.outcomes.Outcome.TheVariants as outcome
 use Rattle.bow_tool.specs.declared.refusals.Refusal.{Refusal}
-use Rattle.bow_tool.specs.declared.refusals.Refusal.TheVariants.{BadWords, NoMemory}
-use Rattle.bow_tool.specs.Words.{Asks}
-use Rattle.bow_tool.specs.Refusals.{refusal_line}
-use Rattle.bow_tool.specs.Outside.{Outside}
-use Rattle.bow_tool.specs.Play.{PlayText, PlayCause, PlayInOrder}
-use Rattle.bow_tool.specs.Check.{CheckText, CheckCause, CheckInOrder}
+use Rattle.bow_tool.specs.declared.refusals.Refusal.TheVariants.{BadWords, KeeperFault, NoMemory}
+use Rattle.bow_tool.specs.Refusals.{refusal_line, status_of}
+use Rattle.bow_tool.specs.Outside.{Call, AllLeft}
+use Rattle.bow_tool.specs.Play.{PlayInOrder, PlayNotCleared, PlayRefused, PlayText}
+use Rattle.bow_tool.specs.Check.{CheckText, CheckCause, ImageInOrder}
+use Rattle.bow_tool.specs.Restores.{RestoreText, RestoreCause, ForwardText, ForwardCause}
+use Rattle.bow_tool.specs.Attempts.{AttemptsInOrder, KeeperHolds, QuestionCause, QuestionText, StartRefusal, StartText, StepCause, StepText}
+use Rattle.bow_tool.specs.Boots.{BootCause, BootText}
+
+-- the numbers of the command are in their ranges: a limit is at least 1, and retries are at most 2147483646
+abbrev pub IsInRange : Command → Type 0
+IsInRange (Restore limit) = IsLimit limit
+IsInRange (Start retries) = retries ≤ most_retries
+IsInRange command = Unit {0}
 
 -- the command was done, with this text
-abbrev pub DoneText : Command → Outside → Outside → List ℕ → Type 0
-DoneText (Play n) old new text = PlayText old new text
-DoneText Check old new text = CheckText old new text
+abbrev pub DoneText : Command → Call → List ℕ → Type 0
+DoneText (Play number) c text = PlayText number c text
+DoneText (Restore limit) c text = RestoreText limit c text
+DoneText Check c text = CheckText c text
+DoneText Forward c text = ForwardText c text
+DoneText (Start retries) c text = StartText retries c text
+DoneText Mark c text = StepText marked c text
+DoneText NeedsCheckpoint c text = QuestionText needs_checkpoint c text
+DoneText NeedsRollback c text = QuestionText needs_rollback c text
+DoneText (Abort retry) c text = StepText (aborted retry) c text
+DoneText Boot c text = BootText c text
 
 -- why the command is refused
-abbrev pub CommandCause : Command → Outside → Outside → Type 0 → Refusal → Type 0
-CommandCause (Play n) old new untouched refusal = PlayCause old new untouched refusal
-CommandCause Check old new untouched refusal = CheckCause old new refusal
+abbrev pub CommandCause : Command → Call → Refusal → Type 0
+CommandCause (Play number) c refusal = PlayRefused number c refusal
+CommandCause (Restore limit) c refusal = RestoreCause limit c refusal
+CommandCause Check c refusal = CheckCause c refusal
+CommandCause Forward c refusal = ForwardCause c refusal
+CommandCause (Start retries) c refusal = StartRefusal retries c refusal
+CommandCause Mark c refusal = StepCause marked c refusal
+CommandCause NeedsCheckpoint c refusal = QuestionCause needs_checkpoint c refusal
+CommandCause NeedsRollback c refusal = QuestionCause needs_rollback c refusal
+CommandCause (Abort retry) c refusal = StepCause (aborted retry) c refusal
+CommandCause Boot c refusal = BootCause c refusal
+
+-- the command was done, but the keeper failed to remove the attempts after it: so a play may end
+abbrev pub NotClearedText : Command → Call → List ℕ → Type 0
+NotClearedText (Play number) c text = PlayNotCleared number c text
+NotClearedText command c text = ⊥
+
+-- the command came to this
+abbrev pub IsOutcome : Command → Call → Outcome → Type 0
+IsOutcome command c (outcome.Done text) = DoneText command c text.items
+IsOutcome command c (outcome.Refused refusal) = CommandCause command c refusal
+IsOutcome command c (outcome.NotCleared text) = NotClearedText command c text.items
+
+-- block 0 has no magic, or its header is good and the block that it names begins with none
+abbrev pub CanForward : Geometry → Contents → Type 0
+CanForward g image = (header_fault g (image 0) ≡ Some NoMagic)
+    ⊎ ((header_fault g (image 0) ≡ None) × IsPlain (named_by g image))
+
+-- nothing stands in the way of giving the checkpoint up: the disk tells its content, states valid sizes, and no call of
+-- it fails; and there is nothing to give up, or it can be
+pub record ForwardInOrder (c : Call) : Type 0 where
+  pub content : Content
+  pub told : c.disks.content c.disk ≡ Some content
+  pub sizes : (g : Geometry) → c.disks.stated c.disk_after ≡ Some g → IsValid g
+  pub fine : (g : Geometry) → c.disks.stated c.disk_after ≡ Some g → CanForward g (contents_of content.now)
+  pub disk : Rose (c.disks.faults c.disk) (c.disks.faults c.disk_after) → ⊥
 
 -- nothing outside stands in the way of the command
-abbrev pub CommandInOrder : Command → Outside → Outside → Type 0
-CommandInOrder (Play n) old new = PlayInOrder old new
-CommandInOrder Check old new = CheckInOrder old new
+abbrev pub CommandInOrder : Command → Call → Type 0
+CommandInOrder (Play number) c = PlayInOrder c
+CommandInOrder (Restore limit) c = ImageInOrder c
+CommandInOrder Check c = ImageInOrder c
+CommandInOrder Forward c = ForwardInOrder c
+CommandInOrder (Start retries) c = KeeperHolds c
+CommandInOrder Mark c = AttemptsInOrder c
+CommandInOrder NeedsCheckpoint c = AttemptsInOrder c
+CommandInOrder NeedsRollback c = AttemptsInOrder c
+CommandInOrder (Abort retry) c = AttemptsInOrder c
+CommandInOrder Boot c = ImageInOrder c × AttemptsInOrder c
+
+-- it may stop at a limit
+abbrev pub MayStop : Command → Type 0
+MayStop (Restore (Some limit)) = Unit {0}
+MayStop command = ⊥
 
 -- the words ask for a command of which this holds
 abbrev pub AskFor : List (String Global) → (Command → Type 0) → Type 0
 AskFor words P = (command : Command) × Asks words command × P command
 
--- what the words ask for was done, with this text
-abbrev pub IsDoneText : List (String Global) → Outside → Outside → List ℕ → Type 0
-IsDoneText words old new text = AskFor words (λ command. DoneText command old new text)
+-- why the words come to no command: they ask for none, or there was no memory to read them
+abbrev pub WordsCause : List (String Global) → Refusal → Type 0
+WordsCause words BadWords = (command : Command) → Asks words command → ⊥
+WordsCause words NoMemory = Unit {0}
+WordsCause words refusal = ⊥
 
--- the words ask for nothing, and no call was made on the disk
-abbrev pub AskNothing : List (String Global) → Type 0 → Type 0
-AskNothing words untouched = ((command : Command) → Asks words command → ⊥) × untouched
+-- why a call refuses: its words come to no command, and nothing outside was touched; or what they ask for is refused
+abbrev pub RefusalCause : List (String Global) → Call → Refusal → Type 0
+RefusalCause words c refusal = (WordsCause words refusal × AllLeft c)
+    ⊎ AskFor words (λ command. CommandCause command c refusal)
 
--- Why a call refuses: its words ask for nothing, or what they ask for is refused. The line of any may want memory.
-abbrev pub RefusalCause : List (String Global) → Outside → Outside → Type 0 → Refusal → Type 0
-RefusalCause words old new untouched BadWords = AskNothing words untouched
-RefusalCause words old new untouched NoMemory = AskNothing words untouched
-    ⊎ AskFor words (λ command. CommandCause command old new untouched NoMemory)
-RefusalCause words old new untouched refusal = AskFor words (λ command. CommandCause command old new untouched refusal)
+-- a refusal has its cause; or there is no memory for the line of one that has
+abbrev pub IsRefused : (Refusal → Type 0) → Refusal → Type 0
+IsRefused Cause refusal = Cause refusal ⊎ ((refusal ≡ NoMemory) × ((meant : Refusal) × Cause meant))
 
--- a refusal with this text: its line
-abbrev pub IsRefusalText : List (String Global) → Outside → Outside → Type 0 → Refusal → List ℕ → Type 0
-IsRefusalText words old new untouched refusal text = RefusalCause words old new untouched refusal
-    × (text ≡ refusal_line refusal)
+-- a refusal that was told with this text: its line; or a play's transcript and the line of the keeper's fault
+abbrev pub IsRefusedWith : (Refusal → Type 0) → (List ℕ → Type 0) → Refusal → List ℕ → Type 0
+IsRefusedWith Cause NotCleared refusal text = (IsRefused Cause refusal × (text ≡ refusal_line refusal))
+    ⊎ ((refusal ≡ KeeperFault) × NotCleared text)
 
--- the words ask for a command, and nothing outside stands in its way
-abbrev pub IsInOrder : List (String Global) → Outside → Outside → Type 0
-IsInOrder words old new = AskFor words (λ command. CommandInOrder command old new)
+-- What a call tells, where its sink had and has these bytes, and failed so often, and its status: at 0 the text of what
+-- was done; at 5 a front of a text, as the sink failed; else a refusal, with its text and its cause. Where nothing
+-- outside stands in the way, only want of memory keeps it from being done, or the limit that was asked for.
+pub record Tells (Done : List ℕ → Type 0) (Cause : Refusal → Type 0) (NotCleared : List ℕ → Type 0)
+    (InOrder MayStop : Type 0) (had has : Option (List ℕ)) (faults now status : ℕ) : Type 0 where
+  pub done : status ≡ 0 → (text : List ℕ) × Done text × Appends had has text
+  pub refused : (status ≡ 0 → ⊥) → (status ≡ 5 → ⊥) → (refusal : Refusal) × (text : List ℕ)
+      × (status ≡ status_of refusal) × IsRefusedWith Cause NotCleared refusal text × Appends had has text
+  pub stuck : status ≡ 5 → Rose faults now
+  pub front : status ≡ 5 → (text : List ℕ) × (n : ℕ) × Appends had has (take n text)
+      × (Done text ⊎ ((refusal : Refusal) × IsRefusedWith Cause NotCleared refusal text))
+  pub complete : InOrder → (Rose faults now → ⊥)
+      → (status ≡ 0) ⊎ ((status ≡ 11) ⊎ ((status ≡ 12) × MayStop))
+
+-- what a call tells that was asked for a command
+abbrev pub TellsCommand : Command → Call → Option (List ℕ) → Option (List ℕ) → ℕ → ℕ → ℕ → Type 0
+TellsCommand command c had has faults now status =
+    Tells (DoneText command c) (CommandCause command c) (NotClearedText command c) (CommandInOrder command c)
+    (MayStop command) had has faults now status
+
+-- what a call tells that was given these words
+abbrev pub TellsWords : List (String Global) → Call → Option (List ℕ) → Option (List ℕ) → ℕ → ℕ → ℕ → Type 0
+TellsWords words c had has faults now status =
+    Tells (λ text. AskFor words (λ command. DoneText command c text)) (RefusalCause words c)
+    (λ text. AskFor words (λ command. NotClearedText command c text))
+    (AskFor words (λ command. CommandInOrder command c)) (AskFor words MayStop) had has faults now status
+
+-- a line was put whole, with the status that was wanted; or a front of it, as the sink failed
+abbrev pub IsPut : ℕ → List ℕ → Option (List ℕ) → Option (List ℕ) → ℕ → ℕ → ℕ → Type 0
+IsPut wanted line had has faults now status = ((status ≡ wanted) × Appends had has line)
+    ⊎ ((status ≡ 5) × Rose faults now × ((n : ℕ) × Appends had has (take n line)))
+
+-- the line of a refusal was put, or that of want of memory in its place
+abbrev pub IsRefusalPut : Refusal → Option (List ℕ) → Option (List ℕ) → ℕ → ℕ → ℕ → Type 0
+IsRefusalPut refusal had has faults now status = (told : Refusal) × ((told ≡ refusal) ⊎ (told ≡ NoMemory))
+    × IsPut (status_of told) (refusal_line told) had has faults now status
+
+-- an outcome was put: a text with status 0, a refusal, or a text with the status of the keeper's fault
+abbrev pub IsOutcomePut : Outcome → Option (List ℕ) → Option (List ℕ) → ℕ → ℕ → ℕ → Type 0
+IsOutcomePut (outcome.Done text) had has faults now status = IsPut 0 text.items had has faults now status
+IsOutcomePut (outcome.Refused refusal) had has faults now status = IsRefusalPut refusal had has faults now status
+IsOutcomePut (outcome.NotCleared text) had has faults now status =
+    IsPut (status_of KeeperFault) text.items had has faults now status

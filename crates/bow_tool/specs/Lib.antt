@@ -1,7 +1,11 @@
+pub mod Attempts
+pub mod Boots
 pub mod Check
 pub mod Commands
+pub mod Outcomes
 pub mod Outside
 pub mod Play
 pub mod Refusals
-pub mod Streams
-pub mod Words
+pub mod Restores
+pub mod Sizes
+pub mod Tellings

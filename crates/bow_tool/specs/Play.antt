@@ -1,139 +1,127 @@
 -- What a play did: what it says, and why it was refused.
-use Rattle.std.specs.Prelude.{◌≡◌, ◌⊎◌, ℕ, ◌+◌, ◌≤◌, List, length, Option, None, Some}
-use Rattle.std.specs.List.{AllByRecursion}
-use Rattle.std.specs.Io.KnownBytes.{Consumes, IsAtEnd}
+use Rattle.std.specs.Prelude.{◌≡◌, ◌⊎◌, ℕ, ◌+◌, ◌≤◌, Bool, true, false, List, [], ◌++◌, slice_index_or, Option, None, Some}
+use Rattle.std.specs.List.{sum_by}
 use Rattle.bow_units.specs.declared.sizes.Geometry.{Geometry}
-use Rattle.bow_units.specs.declared.requests.Phase.TheVariants.{Trim}
 use Rattle.bow_units.specs.Sizes.{IsValid}
 use Rattle.bow_units.specs.Causes.{Rose}
-use Rattle.bow_disk.specs.Disk.{Content, IsSettledOn}
-use Rattle.bow_flat.specs.Flat.{Flat, opening}
-use Rattle.bow_plain.specs.Standing.{StandsFor}
-use Rattle.bow_plain.specs.Clauses.{HoldsImage}
-use Rattle.bow_plain_script.specs.declared.scripts.Line.{Line}
-use Rattle.bow_plain_script.specs.Grammar.{IsScriptText}
-use Rattle.bow_plain_script.specs.Scripts.{script_of}
-use Rattle.bow_plain_session.specs.declared.journals.Item.{Item}
-use Rattle.bow_plain_session.specs.Journal.{Place, beginning, Legal}
-use Rattle.bow_plain_session.specs.Lanes.{IsComplete}
-use Rattle.bow_plain_session.specs.Cuts.{CanLeave, Cuts, CutsStand, IsOnTheWay}
-use Rattle.bow_plain_session.specs.Moments.{Explains, moments_from}
-use Rattle.bow_plain_session.specs.Served.{IsServed}
-use Rattle.bow_plain_session.specs.Sessions.{asked_of}
+use Rattle.bow_units.specs.Magics.{IsPlain}
+use Rattle.bow_disk.specs.Disk.{Content}
+use Rattle.bow_guard.specs.Standing.{StandsFor}
+use Rattle.bow_core.specs.Openings.{KeepsImage}
+use Rattle.bow_script.specs.declared.scripts.Line.{Line}
+use Rattle.bow_script.specs.Scripts.{IsScriptText}
+use Rattle.bow_history.specs.declared.items.Item.{Item}
+use Rattle.bow_history.specs.Journal.{Plan}
+use Rattle.bow_history.specs.Complete.{IsComplete}
+use Rattle.bow_history.specs.DiskCuts.{StandsAheadToo}
+use Rattle.bow_history.specs.Promises.{faults_in, held}
+use Rattle.bow_session.specs.Sessions.{Run, IsOver, plan_in, state_in}
+use Rattle.bow_play.specs.Committing.{HasCommitted}
+use Rattle.bow_play.specs.Leading.{PlayLeads}
+use Rattle.bow_play.specs.Playing.{IsPlay, PlayCause}
+use Rattle.bow_play.specs.Reading.{GaveScript}
+use Rattle.bow_play.specs.declared.faults.PlayFault.{PlayFault}
+use Rattle.bow_play.specs.declared.faults.PlayFault.TheVariants as plays
 use Rattle.bow_report.specs.Texts.{transcript_text}
+use Rattle.vold_meta.specs.Keeper.{Goes, TimeGoes}
 use Rattle.bow_tool.specs.declared.refusals.Refusal.{Refusal}
-use Rattle.bow_tool.specs.declared.refusals.Refusal.TheVariants.{BadWords, BadScript, SourceFault, DiskFault, NeedsRestore, BadChain, NoMemory, BadGeometry}
-use Rattle.bow_tool.specs.Outside.{Outside, StatesSizes}
+use Rattle.bow_tool.specs.declared.refusals.Refusal.TheVariants.{BadScript, SourceFault, DiskFault, KeeperFault, NeedsRestore, NoMemory, BadGeometry}
+use Rattle.bow_tool.specs.Refusals.{refusal_line}
+use Rattle.bow_tool.specs.Outside.{Call, KeeperView, KeeperLeft}
+use Rattle.bow_tool.specs.Sizes.{HasSizes}
 
--- the source had these bytes left, gave this text, and then had ended
-pub record WasRead (left rest : Option (List ℕ)) (text : List ℕ) : Type 0 where
-  pub bytes : Consumes left rest text
-  pub ended : IsAtEnd rest
+-- The script that the source gave was played in this session, by the draws of a number, over a device that was opened
+-- on the disk. Each request is answered, and the journal is complete; the disk's faults rose by at least as many as it
+-- tells. Over a disk that tells its content the journal is legal from the opening state of the image, cuts leave states
+-- on its way, and the device stands for the last one; where no call of the disk failed, they are ahead for these too.
+pub record WasPlayed (c : Call) (number : ℕ) (s : Run c.Disk) : Type 0 where
+  pub given : GaveScript (c.sources.left c.source) (c.sources.left c.source_after) s.script
+  pub disk : c.disk_after ≡ s.core.disk
+  pub sizes : HasSizes c.disks s.core.disk s.core.geometry
+  pub over : IsOver s
+  pub complete : IsComplete (plan_in s) s.journal
+  pub played : IsPlay c.disks.stated c.disks.content c.disks.moment c.disks.left_since c.disks.faults number c.disk s
+  pub faults : held (c.disks.faults c.disk + sum_by faults_in s.journal) ≤ c.disks.faults s.core.disk
+  pub plain : (k : Content) → c.disks.content c.disk ≡ Some k → IsPlain (slice_index_or k.now 0 [])
+  pub leads : (k : Content) → c.disks.content c.disk ≡ Some k
+      → PlayLeads c.disks.content c.disks.moment c.disks.left_since (StandsFor s.core.geometry) c.disk k s
+  pub ahead : (k : Content) → c.disks.content c.disk ≡ Some k
+      → (Rose (c.disks.faults c.disk) (c.disks.faults s.core.disk) → ⊥)
+      → PlayLeads c.disks.content c.disks.moment c.disks.left_since (StandsAheadToo s.core.geometry) c.disk k s
 
--- the source gave a script, and then had ended
-pub record GaveScript (left rest : Option (List ℕ)) : Type 0 where
-  pub text : List ℕ
-  pub lines : List Line
-  pub read : WasRead left rest text
-  pub spelled : IsScriptText text lines
+-- the transcript of a session
+abbrev pub transcript_of : {D : Type 0} → Run D → List ℕ
+transcript_of s = transcript_text (plan_in s) ((state_in s).kept) s.journal
 
--- the source gave what is no script, to its end or until more bytes had come than a script may have
-pub record GaveNoScript (left rest : Option (List ℕ)) : Type 0 where
-  pub text : List ℕ
-  pub bytes : Consumes left rest text
-  pub whole : IsAtEnd rest ⊎ (length text ≡ 4194305)
-  pub none : (lines : List Line) → IsScriptText text lines → ⊥
+-- the attempts were removed, by one call of the keeper
+pub record IsCleared {K : Type 0} (v : KeeperView K) (old new : K) : Type 0 where
+  pub step : Goes (λ kept now. now ≡ None) (v.kept old) (v.kept new)
+  pub time : TimeGoes (v.kept new) 1 (v.moment old) (v.moment new) (v.left_since old) (v.left_since new) (λ k. k ≡ None)
 
--- why there is no script: the bytes that the source has left before and after, and its counts of faults
-abbrev pub ScriptCause : Option (List ℕ) → Option (List ℕ) → ℕ → ℕ → Refusal → Type 0
-ScriptCause left rest before now SourceFault = Rose before now
-ScriptCause left rest before now (BadScript line) = (line ≡ 0) × GaveNoScript left rest
-ScriptCause left rest before now NoMemory = Unit {0}
-ScriptCause left rest before now refusal = ⊥
+-- the one call that was to remove them failed
+pub record IsNotCleared {K : Type 0} (v : KeeperView K) (old new : K) : Type 0 where
+  pub step : Goes (λ kept now. (now ≡ kept) ⊎ (now ≡ None)) (v.kept old) (v.kept new)
+  pub time : TimeGoes (v.kept new) 1 (v.moment old) (v.moment new) (v.left_since old) (v.left_since new) (λ k. k ≡ None)
+  pub rose : Rose (v.faults old) (v.faults new)
 
--- No request was begun on a disk that held this: it holds the same image, has had one call at most, and a cut leaves
--- nothing that it might not have left before.
-pub record KeepsImage (old new : Outside) (c : Content) : Type 0 where
-  pub image : HoldsImage c.now new.content
-  pub calls : new.moment ≤ old.moment + 1
-  pub cuts : (t : ℕ) (cut : List (List ℕ)) → t ≤ old.moment → new.left_since t cut → old.left_since t cut
+-- After a commit that was answered Done the attempts are removed, and else the keeper is not asked. It is told whether
+-- that went well.
+abbrev pub Clears : {K : Type 0} → KeeperView K → Plan → List Item → K → K → Bool → Type 0
+Clears v plan journal old new true = (HasCommitted plan journal × IsCleared v old new)
+    ⊎ ((HasCommitted plan journal → ⊥) × (new ≡ old))
+Clears v plan journal old new false = HasCommitted plan journal × IsNotCleared v old new
 
--- so of a disk that tells its content
-abbrev pub KeepsImages : Outside → Outside → Type 0
-KeepsImages old new = (c : Content) → old.content ≡ Some c → KeepsImage old new c
+abbrev pub ClearsAfter : (c : Call) → Run c.Disk → Bool → Type 0
+ClearsAfter c s cleared = Clears c.keepers (plan_in s) s.journal c.keeper c.keeper_after cleared
 
--- what the disk tells of the cuts of the call
-abbrev pub cuts_between : Outside → Outside → Cuts
-cuts_between old new = record {
-  start = old.moment;
-  early = old.left_since old.moment;
-  since = new.left_since;
-  now = CanLeave new.content;
-}
+-- a play that was made: its text is the transcript
+abbrev pub PlayText : ℕ → Call → List ℕ → Type 0
+PlayText number c text = (s : Run c.Disk) × WasPlayed c number s × ClearsAfter c s true × (text ≡ transcript_of s)
 
--- A script was run from this state on: its journal is legal and complete, and leads to a state for which the disk
--- stands. Cuts leave states on the journal's way, where each item has the moment that the calls told so far give it,
--- the opening's flush among them. The disk's count of faults was this before, and rose by at least as many as the
--- journal tells. Where it did not rise, each request was done, or is out of range or begins with a reserved magic.
-pub record WasRun (sizes : Geometry) (script : List (List (List Line))) (start : Flat) (content : Option Content)
-    (cuts : Cuts) (before now : ℕ) : Type 0 where
-  pub journal : List Item
-  pub buffers : ℕ → ℕ → List ℕ
-  pub end : Place
-  pub legal : Legal (asked_of sizes script buffers) journal (beginning start) end
-  pub complete : IsComplete script journal end
-  pub stands : StandsFor Trim sizes.blocks content end.flat
-  pub cut : CutsStand (asked_of sizes script buffers) journal (moments_from 1 journal) (beginning start) end cuts
-  pub faults : Explains before journal now
-  pub served : (Rose before now → ⊥) → AllByRecursion (IsServed (asked_of sizes script buffers)) journal
+-- a play that was made, after whose commit the keeper failed: its text is the transcript and the line of that
+abbrev pub PlayNotCleared : ℕ → Call → List ℕ → Type 0
+PlayNotCleared number c text = (s : Run c.Disk) × WasPlayed c number s × ClearsAfter c s false
+    × (text ≡ transcript_of s ++ refusal_line KeeperFault)
 
--- the transcript of that journal, with the contents that were read
-abbrev pub transcript_of : {sizes : Geometry} {script : List (List (List Line))} {start : Flat}
-    {content : Option Content} {cuts : Cuts} {before now : ℕ} → WasRun sizes script start content cuts before now
-    → List ℕ
-transcript_of {sizes} {script} r = transcript_text (asked_of sizes script r.buffers) r.journal
+-- why there was no play, as a refusal
+abbrev pub refusal_for : PlayFault → Refusal
+refusal_for plays.SourceFault = SourceFault
+refusal_for (plays.BadScript line) = BadScript line
+refusal_for (plays.BadGeometry g) = BadGeometry g
+refusal_for plays.DiskFault = DiskFault
+refusal_for plays.NeedsRestore = NeedsRestore
+refusal_for plays.NoMemory = NoMemory
 
--- The script that the source gave was run over a disk that held this. Where it was settled on its image, each image
--- that a cut of the call left stands for a state on the journal's way.
-pub record WasPlayed (old new : Outside) (c : Content) : Type 0 where
-  pub given : GaveScript old.left new.left
-  pub sizes : Geometry
-  pub stated : new.stated ≡ Some sizes
-  pub run : WasRun sizes (script_of given.lines) (opening c.now) new.content
-      (cuts_between old new) old.disk_faults new.disk_faults
-  pub settled : IsSettledOn c.now c → (cut : List (List ℕ)) → new.left_since old.moment cut
-      → IsOnTheWay (asked_of sizes (script_of given.lines) run.buffers) run.journal
-      (beginning (opening c.now)) run.end 0 cut
+-- no request was begun, for this cause: the keeper was not asked, the image is unchanged, the disk had two calls at
+-- most, and a cut leaves nothing that it might not have left before
+pub record WasNotPlayed (c : Call) (fault : PlayFault) : Type 0 where
+  pub keeper : KeeperLeft c
+  pub cause : PlayCause c.disks.stated c.disks.content c.disks.moment c.disks.faults (c.sources.left c.source)
+      (c.sources.left c.source_after) (c.sources.faults c.source) (c.sources.faults c.source_after) c.disk c.disk_after
+      fault
+  pub kept : KeepsImage c.disks.stated c.disks.content c.disks.moment c.disks.left_since c.disks.faults c.disk
+      c.disk_after
+  pub clock : (k : Content) → c.disks.content c.disk ≡ Some k
+      → c.disks.moment c.disk_after ≤ c.disks.moment c.disk + 2
 
--- Why a play that was asked for is refused. The first that applies, in this order, is the answer; want of memory may
--- take the place of any.
-abbrev pub PlayCause : Outside → Outside → Type 0 → Refusal → Type 0
-PlayCause old new untouched SourceFault = Rose old.source_faults new.source_faults × untouched
-PlayCause old new untouched (BadScript line) = (line ≡ 0) × GaveNoScript old.left new.left × untouched
-PlayCause old new untouched (BadGeometry g) = GaveScript old.left new.left × (new.stated ≡ Some g) × (IsValid g → ⊥)
-    × KeepsImages old new
-PlayCause old new untouched DiskFault = GaveScript old.left new.left × Rose old.disk_faults new.disk_faults
-    × KeepsImages old new
-PlayCause old new untouched NoMemory = (c : Content) → old.content ≡ Some c → KeepsImage old new c ⊎ WasPlayed old new c
-PlayCause old new untouched BadWords = ⊥
-PlayCause old new untouched NeedsRestore = ⊥
-PlayCause old new untouched (BadChain fault) = ⊥
-
--- A play that was made, with this text: the source gave a script, the disk states valid sizes, and the text is the
--- transcript, where the disk tells its content.
-abbrev pub PlayText : Outside → Outside → List ℕ → Type 0
-PlayText old new text = GaveScript old.left new.left × StatesSizes new
-    × ((c : Content) → old.content ≡ Some c → (p : WasPlayed old new c) × (text ≡ transcript_of p.run))
+-- why a play that was asked for is refused: it was not made; or it was, and there is no memory for its transcript
+abbrev pub PlayRefused : ℕ → Call → Refusal → Type 0
+PlayRefused number c refusal = ((fault : PlayFault) × (refusal ≡ refusal_for fault) × WasNotPlayed c fault)
+    ⊎ ((refusal ≡ NoMemory) × ((s : Run c.Disk) × WasPlayed c number s × ((cleared : Bool) × ClearsAfter c s cleared)))
 
 -- the source tells what it has left, and that is a script
 abbrev pub TellsScript : Option (List ℕ) → Type 0
 TellsScript None = ⊥
-TellsScript (Some text) = (lines : List Line) × IsScriptText text lines
+TellsScript (Some text) = (script : List (List (List Line))) × IsScriptText text script
 
--- Nothing outside stands in the way of a play: the source tells a script, the disk states valid sizes, and no call of
--- the source or the disk fails.
-pub record PlayInOrder (old new : Outside) : Type 0 where
-  pub script : TellsScript old.left
-  pub sizes : (g : Geometry) → new.stated ≡ Some g → IsValid g
-  pub source : Rose old.source_faults new.source_faults → ⊥
-  pub disk : Rose old.disk_faults new.disk_faults → ⊥
+-- Nothing outside stands in the way of a play: the source tells a script, the disk tells its content, which has no
+-- magic in block 0, and states valid sizes, and no call of the source, the disk or the keeper fails.
+pub record PlayInOrder (c : Call) : Type 0 where
+  pub script : TellsScript (c.sources.left c.source)
+  pub content : Content
+  pub told : c.disks.content c.disk ≡ Some content
+  pub plain : IsPlain (slice_index_or content.now 0 [])
+  pub sizes : (g : Geometry) → c.disks.stated c.disk_after ≡ Some g → IsValid g
+  pub source : Rose (c.sources.faults c.source) (c.sources.faults c.source_after) → ⊥
+  pub disk : Rose (c.disks.faults c.disk) (c.disks.faults c.disk_after) → ⊥
+  pub keeper : Rose (c.keepers.faults c.keeper) (c.keepers.faults c.keeper_after) → ⊥

@@ -1,12 +1,19 @@
-//! The program's top call: from the words of the command line, a script's bytes and an image to what is told of them.
+//! The top call of the program: from the words of the command line, the bytes of a script, an image and the attempts
+//! that are kept, to what is told of them.
 #![tactic(auto)]
 
+mod attempts;
+mod boots;
 mod checks;
+mod lines;
+mod outcomes;
+mod plays;
 mod refusals;
+mod restores;
+mod sizes;
 mod streams;
 mod tools;
-mod words;
 
+pub use bow_words::Command;
 pub use refusals::Refusal;
-pub use tools::{Ended, tool};
-pub use words::{Command, read_words};
+pub use tools::{Ended, manage, tool};

@@ -1,51 +1,9 @@
-// All that a source gives, and all that a sink is to take.
-ghost use Rattle.std.specs.Prelude.{◌≡◌, ◌≤◌, ℕ, length, take, IfOk, true, false};
-ghost use Rattle.std.specs.Io.KnownBytes.{Appends, Consumes, IsAtEnd};
+// All that a sink is to take.
+ghost use Rattle.std.specs.Prelude.{◌≡◌, ◌≤◌, ℕ, take, true, false};
+ghost use Rattle.std.specs.Io.KnownBytes.{Appends};
 ghost use Rattle.bow_units.specs.Causes.{Rose};
-ghost use Rattle.bow_tool.specs.Streams.{ReadCause};
 
-use bow_units::{Sink, Source};
-use std::alloc::Global;
-
-/// Why the bytes of a source were not all read.
-#[derive(Clone, Copy, Debug, PartialEq, Eq)]
-pub(crate) enum ReadFault {
-    /// A call of the source failed.
-    Source,
-    /// More bytes have come than a script may have.
-    Long,
-    /// There was no memory.
-    NoMemory,
-}
-
-// One byte more than a script's text may have.
-const LIMIT: usize = 4_194_305;
-
-/// Reads a source to its end, or until 4,194,305 bytes have come.
-pub(crate) fn read_all<S: Source>(alloc: Global, source: &mut S) -> Result<Vec<u8>, ReadFault>
-    ensures bytes { IfOk result (λ v. Consumes (S.left source.old) (S.left source.new) v.items
-        × IsAtEnd (S.left source.new)) }
-    ensures few { IfOk result (λ v. length v.items ≤ 4194304) }
-    ensures faults { S.faults source.old ≤ S.faults source.new }
-    ensures cause { ReadCause (S.left source.old) (S.left source.new) (S.faults source.old)
-        (S.faults source.new) result }
-{
-    let mut bytes = Vec::new(alloc);
-    let mut buffer = [0u8; 4096];
-    while bytes.len() < LIMIT {
-        let room = buffer.len().min(LIMIT - bytes.len());
-        let Ok(count) = source.take(&mut buffer[..room]) else {
-            return Err(ReadFault::Source);
-        };
-        if count == 0 {
-            return Ok(bytes);
-        }
-        if bytes.extend_from_slice(&buffer[..count]).is_err() {
-            return Err(ReadFault::NoMemory);
-        }
-    }
-    Err(ReadFault::Long)
-}
+use bow_units::Sink;
 
 /// Puts all the bytes. `false` where the sink failed or took none; it has taken a front of them then.
 pub(crate) fn put_all<W: Sink>(sink: &mut W, bytes: &[u8]) -> bool

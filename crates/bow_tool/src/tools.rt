@@ -1,124 +1,159 @@
 // The top call.
-ghost use Rattle.std.specs.Prelude.{◌≡◌, ◌⊎◌, ℕ, ◌≤◌, List, take, IfOk, IfErr, None, Some, MatchResult};
-ghost use Rattle.std.specs.Io.KnownBytes.{Appends};
-ghost use Rattle.bow_units.specs.Causes.{Rose};
-ghost use Rattle.bow_tool.specs.Refusals.{status_of, refusal_for, refusal_line};
-ghost use Rattle.bow_units.specs.declared.requests.Phase.TheVariants.{Trim};
-ghost use Rattle.bow_flat.specs.Flat.{Flat};
-ghost use Rattle.bow_plain.specs.Standing.{StandsFor};
-ghost use Rattle.bow_plain_script.specs.Grammar.{IsScriptText};
-ghost use Rattle.bow_plain_script.specs.Scripts.{lane_lines, script_of};
-ghost use Rattle.bow_plain_session.specs.Cuts.{IsOpenedOn, cuts_of};
-ghost use Rattle.bow_tool.specs.Outside.{outside};
-ghost use Rattle.bow_tool.specs.Play.{ScriptCause, WasRead, WasRun, transcript_of, PlayText, PlayCause};
-ghost use Rattle.bow_tool.specs.Commands.{IsInOrder, IsDoneText, IsRefusalText, RefusalCause};
-ghost use Rattle.bow_tool.specs.declared.refusals.Refusal.{Refusal};
+ghost use Rattle.std.specs.Prelude.{◌≡◌};
+ghost use Rattle.bow_tool.specs.Tellings.{refusal_of_words};
+ghost use Rattle.bow_tool.specs.Outside.{call_of, disk_view, keeper_view, source_view};
+ghost use Rattle.bow_tool.specs.Commands.{IsInRange, IsOutcome, IsOutcomePut, IsPut, IsRefusalPut, TellsCommand, TellsWords};
 
+use crate::attempts::{told_answer, told_attempts, told_start};
+use crate::boots::boot_image;
 use crate::checks::check;
+use crate::outcomes::{Outcome, outcome_of};
+use crate::plays::play_script;
 use crate::refusals::Refusal;
-use crate::streams::{ReadFault, put_all, read_all};
-use crate::words::{Command, read_words};
+use crate::restores::{forward_image, restore_image};
+use crate::streams::put_all;
 use bow_chain::fault_law;
-use bow_disk::{Disk, settled_law};
-use bow_plain::{Core, OpenFault};
-use bow_plain_script::{Script, ScriptFault, read_script};
-use bow_plain_session::{Session, served_law};
-use bow_report::transcript;
+use bow_disk::Disk;
 use bow_units::{NoMemory, Sink, Source};
+use bow_words::{Command, WordsFault, read_words, words_law};
 use std::alloc::Global;
+use vold_commands::{abort, mark, needs_checkpoint, needs_rollback, start};
+use vold_meta::Keeper;
 
-/// How a call of the program ended: its status, and the disk as it is left.
+/// How a call of the program ended: its status, and the disk and the keeper as they are left.
 #[derive(Drop)]
-pub struct Ended<D> {
+pub struct Ended<D, K> {
     pub status: u8,
     pub disk: D,
+    pub keeper: K,
 }
 
-/// Does what the words ask for, and puts what it tells into the sink. The sizes are those that the disk states.
-/// `IMAGE ATTEMPTS BLOCK play NUMBER` reads a script from the source, runs its requests over the disk, and tells the
-/// transcript. `IMAGE ATTEMPTS BLOCK check` reads the chain of logs of the image, and tells whether it is sound.
+/// Does what the words ask for, and puts what it tells into the sink. The words are read by `read_words`, and what they
+/// ask for is done by `manage`, whose table has the other statuses.
 ///
 /// | Status | What the sink has taken | Comes |
 /// |---|---|---|
-/// | 0 | the transcript; the lines of the chain and `sound`, or `no log` | where no other does |
-/// | 2 | `bad words` | exactly where the words ask for nothing; no call was made on the disk |
-/// | 4 | `source fault` | only where a call of the source failed; no call was made on the disk |
-/// | 3 | `bad script at line 0` | exactly where the source gave no script; no call was made on the disk |
-/// | 13 | `bad geometry B N` | exactly where the disk states sizes that no device has; its image is unchanged |
-/// | 6 | `disk fault` | only where a call of the disk failed before a request or a text; its image is unchanged |
-/// | 9 | `bad chain: ..` | exactly where `check` finds a magic and an unsound image: its first fault; it is unchanged |
+/// | 2 | `bad words` | exactly where the words ask for nothing; nothing outside was touched |
 /// | 5 | a front of what it was given | only where a call of the sink failed, or took nothing; in place of any other |
-/// | 11 | `no memory` | for want of memory, in place of any other; a session that was begun has done its requests |
-///
-/// They are tried in this order. A request that the disk refuses is a line of the transcript, and no status. Where
-/// nothing stands in the way and no call fails, the status is 0 or 11.
-///
-/// A cut since a play began leaves what it might have left before, or a state on the way of the journal; since the
-/// moment of an item, a state that has the item; at the end, the last state. Where no script was run, it leaves nothing
-/// that it might not have left before. A check calls nothing but `sizes` and `read`, whatever its status: the source
-/// and the image are as they were, and a cut leaves nothing that it might not have left before.
-pub fn tool<D: Disk, S: Source, W: Sink>(
+/// | 11 | `no memory` | for want of memory, in place of any other |
+pub fn tool<D: Disk, K: Keeper, S: Source, W: Sink>(
     alloc: Global,
     words: &[String],
     disk: D,
+    keeper: K,
     source: &mut S,
     sink: &mut W,
-) -> Ended<D>
-    ensures done { result.status ≡ 0 →
-        let old = outside (S.left source.old) (S.faults source.old) (D.stated disk) (D.content disk) (D.moment disk)
-        (D.left_since disk) (D.faults disk) in
-        let new = outside (S.left source.new) (S.faults source.new) (D.stated result.disk) (D.content result.disk)
-        (D.moment result.disk) (D.left_since result.disk) (D.faults result.disk) in
-        (text : List ℕ) × IsDoneText words.now old new text × Appends (W.contents sink.old) (W.contents sink.new) text }
-    ensures refused { (result.status ≡ 0 → ⊥) → (result.status ≡ 5 → ⊥) →
-        let old = outside (S.left source.old) (S.faults source.old) (D.stated disk) (D.content disk) (D.moment disk)
-        (D.left_since disk) (D.faults disk) in
-        let new = outside (S.left source.new) (S.faults source.new) (D.stated result.disk) (D.content result.disk)
-        (D.moment result.disk) (D.left_since result.disk) (D.faults result.disk) in
-        (refusal : Refusal) × (result.status ≡ status_of refusal)
-        × RefusalCause words.now old new (result.disk ≡ disk) refusal
-        × Appends (W.contents sink.old) (W.contents sink.new) (refusal_line refusal) }
-    ensures complete { let old = outside (S.left source.old) (S.faults source.old) (D.stated disk) (D.content disk)
-        (D.moment disk) (D.left_since disk) (D.faults disk) in
-        let new = outside (S.left source.new) (S.faults source.new) (D.stated result.disk) (D.content result.disk)
-        (D.moment result.disk) (D.left_since result.disk) (D.faults result.disk) in
-        IsInOrder words.now old new → (Rose (W.faults sink.old) (W.faults sink.new) → ⊥) → (result.status ≡ 0)
-        ⊎ (result.status ≡ 11) }
-    ensures stuck { result.status ≡ 5 → Rose (W.faults sink.old) (W.faults sink.new) }
-    ensures front { result.status ≡ 5 →
-        let old = outside (S.left source.old) (S.faults source.old) (D.stated disk) (D.content disk) (D.moment disk)
-        (D.left_since disk) (D.faults disk) in
-        let new = outside (S.left source.new) (S.faults source.new) (D.stated result.disk) (D.content result.disk)
-        (D.moment result.disk) (D.left_since result.disk) (D.faults result.disk) in
-        (text : List ℕ) × (n : ℕ) × Appends (W.contents sink.old) (W.contents sink.new) (take n text)
-        × (IsDoneText words.now old new text ⊎ ((refusal : Refusal)
-        × IsRefusalText words.now old new (result.disk ≡ disk) refusal text)) }
+) -> Ended<D, K>
+    ensures { let call = call_of (source_view S.left S.faults)
+        (disk_view D.stated D.content D.moment D.left_since D.faults)
+        (keeper_view K.kept K.moment K.left_since K.faults) source.old source.new disk result.disk keeper result.keeper
+        in TellsWords words.now call (W.contents sink.old) (W.contents sink.new) (W.faults sink.old)
+        (W.faults sink.new) result.status }
 {
-    let (outcome, disk) = obey(alloc, words, disk, source);
-    fault_law();
-    let status = match outcome {
-        Ok(text) => put_transcript(sink, &text),
-        Err(refusal) => put_refusal(alloc, sink, refusal),
-    };
-    Ended { status, disk }
+    words_law();
+    match read_words(alloc, words) {
+        Ok(command) => manage(alloc, command, disk, keeper, source, sink),
+        Err(fault) => {
+            let status = put_refusal(alloc, sink, refusal_of(fault));
+            Ended {
+                status,
+                disk,
+                keeper,
+            }
+        }
+    }
 }
 
-// Puts a transcript, and gives the status.
-fn put_transcript<W: Sink>(sink: &mut W, text: &[u8]) -> u8
-    ensures statuses { (result ≡ 0) ⊎ (result ≡ 5) }
-    ensures whole { result ≡ 0 → Appends (W.contents sink.old) (W.contents sink.new) text.now }
-    ensures stuck { result ≡ 5 → Rose (W.faults sink.old) (W.faults sink.new) }
-    ensures front { (n : ℕ) × Appends (W.contents sink.old) (W.contents sink.new) (take n text.now) }
+/// Does what a command asks for, and puts what it tells into the sink. The sizes are those that the disk states.
+///
+/// | Command | Asks | What the sink has taken at status 0 |
+/// |---|---|---|
+/// | `Play` | the source, the disk, the keeper after a commit | the transcript of the script that the source gives |
+/// | `Restore` | the disk | `restored entries E marks M`, or `nothing to restore` |
+/// | `Check` | the disk, which it only reads | the lines of the chain and `sound`, or `no log` |
+/// | `Forward` | the disk | `forwarded`, or `nothing to forward` |
+/// | `Start`, `Mark`, `Abort` | the keeper | `attempts A`, or `no attempts` |
+/// | `NeedsCheckpoint`, `NeedsRollback` | the keeper, which it only reads | `yes` or `no` |
+/// | `Boot` | the disk, the keeper, the disk | `plain`, `checkpointing M`, or `rolled back` |
+///
+/// | Status | Line | Comes |
+/// |---|---|---|
+/// | 4 | `source fault` | only where a call of the source failed; no call was made on the disk |
+/// | 3 | `bad script at line N` | exactly where the source gave no script: its first line at fault, 0 for the length |
+/// | 8 | `needs restore` | exactly where `Play` finds a magic in block 0; the image is unchanged |
+/// | 13 | `bad geometry B N` | exactly where the disk states sizes that no device has; its image is unchanged |
+/// | 6 | `disk fault` | only where a call of the disk failed before a request or a text |
+/// | 9 | `bad chain: ..` | exactly where block 0 begins with a magic and the image is not sound: its first fault |
+/// | 9 | `bad header: ..` | exactly where `Forward` finds a magic and a bad header, or a magic where that points |
+/// | 7 | `keeper fault` | only where a call of the keeper failed; behind the transcript where a play had committed |
+/// | 10 | `bad attempts` | exactly where a text is kept that is no number of attempts |
+/// | 12 | `stopped after K writes` | exactly where the limit of a restoration is below the writes that it wants |
+/// | 5 | a front of any text | only where a call of the sink failed, or took nothing; in place of any other |
+/// | 11 | `no memory` | for want of memory, in place of any other |
+///
+/// What it does not ask is left as it was given. A request that the disk refuses is a line of the transcript, and no
+/// status. Where nothing stands in the way and no call fails, the status is 0 or 11, or 12 where a limit was asked for.
+///
+/// A play makes its steps by the draws of its number, and where a commit was answered `Done` no attempts are kept any
+/// more. Its journal is legal from the opening state of the image. A cut since it began leaves what might have been
+/// left before, or a state on the journal's way; since the moment of an item, a state that has the item; at the end,
+/// the last one.
+///
+/// A cut in a restoration or a boot leaves what might have been left before, or an image that passes on what the one at
+/// entry kept: so the checkpoint is never lost. A check leaves nothing that might not have been left before.
+///
+/// Condition: a limit is at least 1, and a start asks for at most 2147483646 retries.
+pub fn manage<D: Disk, K: Keeper, S: Source, W: Sink>(
+    alloc: Global,
+    command: Command,
+    disk: D,
+    keeper: K,
+    source: &mut S,
+    sink: &mut W,
+) -> Ended<D, K>
+    requires { IsInRange command }
+    ensures { let call = call_of (source_view S.left S.faults)
+        (disk_view D.stated D.content D.moment D.left_since D.faults)
+        (keeper_view K.kept K.moment K.left_since K.faults) source.old source.new disk result.disk keeper result.keeper
+        in TellsCommand command call (W.contents sink.old) (W.contents sink.new) (W.faults sink.old)
+        (W.faults sink.new) result.status }
 {
-    if put_all(sink, text) { 0 } else { 5 }
+    let (outcome, disk, keeper) = obey(alloc, command, disk, keeper, source);
+    fault_law();
+    let status = put_outcome(alloc, sink, outcome);
+    Ended {
+        status,
+        disk,
+        keeper,
+    }
+}
+
+// Why no command was read, as a refusal.
+fn refusal_of(fault: WordsFault) -> Refusal
+    ensures { result ≡ refusal_of_words fault }
+{
+    match fault {
+        WordsFault::BadWords => Refusal::BadWords,
+        WordsFault::NoMemory => Refusal::NoMemory,
+    }
+}
+
+// Puts a text or the line of a refusal, and gives the status.
+fn put_outcome<W: Sink>(alloc: Global, sink: &mut W, outcome: Outcome) -> u8
+    ensures { IsOutcomePut outcome (W.contents sink.old) (W.contents sink.new) (W.faults sink.old) (W.faults sink.new)
+        result }
+{
+    match outcome {
+        Outcome::Done(text) => put_line(sink, &text, 0),
+        Outcome::Refused(refusal) => put_refusal(alloc, sink, refusal),
+        Outcome::NotCleared(text) => put_line(sink, &text, 7),
+    }
 }
 
 // Puts the line of a refusal, and gives the status. Where the line finds no memory it is that of `NoMemory`.
 fn put_refusal<W: Sink>(alloc: Global, sink: &mut W, refusal: Refusal) -> u8
-    ensures told { (told : Refusal) × ((told ≡ refusal) ⊎ (told ≡ Refusal.NoMemory))
-        × (((result ≡ status_of told) × Appends (W.contents sink.old) (W.contents sink.new) (refusal_line told))
-        ⊎ ((result ≡ 5) × Rose (W.faults sink.old) (W.faults sink.new)
-        × ((n : ℕ) × Appends (W.contents sink.old) (W.contents sink.new) (take n (refusal_line told))))) }
+    ensures { IsRefusalPut refusal (W.contents sink.old) (W.contents sink.new) (W.faults sink.old) (W.faults sink.new)
+        result }
 {
     match refusal.line(alloc) {
         Ok(line) => put_line(sink, line.as_bytes(), refusal.status()),
@@ -128,129 +163,57 @@ fn put_refusal<W: Sink>(alloc: Global, sink: &mut W, refusal: Refusal) -> u8
 
 // Puts a line, and gives this status, or 5.
 fn put_line<W: Sink>(sink: &mut W, line: &[u8], status: u8) -> u8
-    ensures told { ((result ≡ status) × Appends (W.contents sink.old) (W.contents sink.new) line.now)
-        ⊎ ((result ≡ 5) × Rose (W.faults sink.old) (W.faults sink.new)
-        × ((n : ℕ) × Appends (W.contents sink.old) (W.contents sink.new) (take n line.now))) }
+    ensures { IsPut status line.now (W.contents sink.old) (W.contents sink.new) (W.faults sink.old)
+        (W.faults sink.new) result }
 {
     if put_all(sink, line) { status } else { 5 }
 }
 
-// Does what the words ask for, and gives the disk back with the text to put.
-fn obey<D: Disk, S: Source>(
+// Does what a command asks for, and gives the text to put.
+fn obey<D: Disk, K: Keeper, S: Source>(
     alloc: Global,
-    words: &[String],
+    command: Command,
     mut disk: D,
+    mut keeper: K,
     source: &mut S,
-) -> (Result<Vec<u8>, Refusal>, D)
-    ensures done { let old = outside (S.left source.old) (S.faults source.old) (D.stated disk) (D.content disk)
-        (D.moment disk) (D.left_since disk) (D.faults disk) in
-        let new = outside (S.left source.new) (S.faults source.new) (D.stated result.1) (D.content result.1)
-        (D.moment result.1) (D.left_since result.1) (D.faults result.1) in
-        IfOk result.0 (λ text. IsDoneText words.now old new text.items) }
-    ensures refused { let old = outside (S.left source.old) (S.faults source.old) (D.stated disk) (D.content disk)
-        (D.moment disk) (D.left_since disk) (D.faults disk) in
-        let new = outside (S.left source.new) (S.faults source.new) (D.stated result.1) (D.content result.1)
-        (D.moment result.1) (D.left_since result.1) (D.faults result.1) in
-        IfErr result.0 (RefusalCause words.now old new (result.1 ≡ disk)) }
+) -> (Outcome, D, K)
+    requires { IsInRange command }
+    ensures { let call = call_of (source_view S.left S.faults)
+        (disk_view D.stated D.content D.moment D.left_since D.faults)
+        (keeper_view K.kept K.moment K.left_since K.faults) source.old source.new disk result.1 keeper result.2
+        in IsOutcome command call result.0 }
 {
-    match read_words(words) {
-        Some(Command::Play(number)) => play(alloc, number, disk, source),
-        Some(Command::Check) => (check(alloc, &mut disk), disk),
-        None => (Err(Refusal::BadWords), disk),
-    }
-}
-
-// Plays the script that the source gives, by the schedule of this number.
-fn play<D: Disk, S: Source>(
-    alloc: Global,
-    number: u64,
-    disk: D,
-    source: &mut S,
-) -> (Result<Vec<u8>, Refusal>, D)
-    ensures played { let old = outside (S.left source.old) (S.faults source.old) (D.stated disk) (D.content disk)
-        (D.moment disk) (D.left_since disk) (D.faults disk) in
-        let new = outside (S.left source.new) (S.faults source.new) (D.stated result.1) (D.content result.1)
-        (D.moment result.1) (D.left_since result.1) (D.faults result.1) in
-        IfOk result.0 (λ text. PlayText old new text.items) }
-    ensures refused { let old = outside (S.left source.old) (S.faults source.old) (D.stated disk) (D.content disk)
-        (D.moment disk) (D.left_since disk) (D.faults disk) in
-        let new = outside (S.left source.new) (S.faults source.new) (D.stated result.1) (D.content result.1)
-        (D.moment result.1) (D.left_since result.1) (D.faults result.1) in
-        IfErr result.0 (PlayCause old new (result.1 ≡ disk)) }
-{
-    let script = match take_script(alloc, source) {
-        Ok(script) => script,
-        Err(refusal) => return (Err(refusal), disk),
-    };
-    let core = match Core::open(disk) {
-        Ok(core) => core,
-        Err((fault, disk)) => return (Err(refusal_of(fault)), disk),
-    };
-    settled_law();
-    run(alloc, core, script, number)
-}
-
-// Reads the script that the source gives.
-fn take_script<S: Source>(alloc: Global, source: &mut S) -> Result<Script, Refusal>
-    ensures given { IfOk result (λ script. (text : List ℕ) × WasRead (S.left source.old) (S.left source.new) text
-        × IsScriptText text (lane_lines 0 script)) }
-    ensures whole { IfOk result (λ script. script ≡ script_of (lane_lines 0 script)) }
-    ensures cause { IfErr result (ScriptCause (S.left source.old) (S.left source.new) (S.faults source.old)
-        (S.faults source.new)) }
-{
-    let text = match read_all(alloc, source) {
-        Ok(text) => text,
-        Err(ReadFault::Source) => return Err(Refusal::SourceFault),
-        Err(ReadFault::Long) => return Err(Refusal::BadScript(0)),
-        Err(ReadFault::NoMemory) => return Err(Refusal::NoMemory),
-    };
-    match read_script(alloc, &text) {
-        Ok(script) => Ok(script),
-        Err(ScriptFault::BadScript(line)) => Err(Refusal::BadScript(line)),
-        Err(ScriptFault::NoMemory) => Err(Refusal::NoMemory),
-    }
-}
-
-fn refusal_of(fault: OpenFault) -> Refusal
-    ensures { result ≡ refusal_for fault }
-{
-    match fault {
-        OpenFault::BadGeometry(sizes) => Refusal::BadGeometry(sizes),
-        OpenFault::NeedsRestore => Refusal::NeedsRestore,
-        OpenFault::DiskFault => Refusal::DiskFault,
-        OpenFault::NoMemory => Refusal::NoMemory,
-    }
-}
-
-// Runs a script over an open device.
-fn run<D: Disk>(
-    alloc: Global,
-    core: Core<D>,
-    script: Script,
-    number: u64,
-) -> (Result<Vec<u8>, Refusal>, D)
-    requires given { (text : List ℕ) × IsScriptText text (lane_lines 0 script) }
-    requires whole { script ≡ script_of (lane_lines 0 script) }
-    requires fresh { (core.phase ≡ Trim) × (core.waiting ≡ None) × (core.admitted ≡ 0) × (core.calls ≡ 1) }
-    ensures memory { IfErr result.0 (λ refusal. refusal ≡ Refusal.NoMemory) }
-    ensures sizes { D.stated result.1 ≡ Some core.geometry }
-    ensures run { (before : ℕ) (start : Flat) (first : D) → before ≤ D.faults core.disk
-        → StandsFor Trim core.geometry.blocks (D.content core.disk) start → IsOpenedOn D.moment D.left_since first core
-        →
-        let cuts = cuts_of D.content D.moment D.left_since first result.1 in
-        MatchResult result.0 (λ text. (r : WasRun core.geometry script start (D.content result.1) cuts before
-        (D.faults result.1)) × (text.items ≡ transcript_of r))
-        (λ _. (result.1 ≡ core.disk) ⊎ WasRun core.geometry script start (D.content result.1) cuts before
-        (D.faults result.1)) }
-{
-    let mut session = match Session::load(alloc, core, script) {
-        Ok(session) => session,
-        Err((core, NoMemory)) => return (Err(Refusal::NoMemory), core.close()),
-    };
-    session.finish(number);
-    served_law();
-    match transcript(alloc, &session) {
-        Ok(text) => (Ok(text), session.close().close()),
-        Err(NoMemory) => (Err(Refusal::NoMemory), session.close().close()),
+    match command {
+        Command::Play(number) => play_script(alloc, number, disk, keeper, source),
+        Command::Restore(limit) => {
+            let answer = restore_image(alloc, &mut disk, limit);
+            (outcome_of(answer), disk, keeper)
+        }
+        Command::Check => (outcome_of(check(alloc, &mut disk)), disk, keeper),
+        Command::Forward => (outcome_of(forward_image(alloc, &mut disk)), disk, keeper),
+        Command::Boot => {
+            let answer = boot_image(alloc, &mut disk, &mut keeper);
+            (outcome_of(answer), disk, keeper)
+        }
+        Command::Start(retries) => {
+            let answer = start(&mut keeper, retries);
+            (outcome_of(told_start(alloc, answer)), disk, keeper)
+        }
+        Command::Mark => {
+            let answer = mark(&mut keeper);
+            (outcome_of(told_attempts(alloc, answer)), disk, keeper)
+        }
+        Command::Abort(retry) => {
+            let answer = abort(&mut keeper, retry);
+            (outcome_of(told_attempts(alloc, answer)), disk, keeper)
+        }
+        Command::NeedsCheckpoint => {
+            let answer = needs_checkpoint(&mut keeper);
+            (outcome_of(told_answer(alloc, answer)), disk, keeper)
+        }
+        Command::NeedsRollback => {
+            let answer = needs_rollback(&mut keeper);
+            (outcome_of(told_answer(alloc, answer)), disk, keeper)
+        }
     }
 }

@@ -1,9 +1,0 @@
-pub mod Lines
-pub mod Rows
-pub mod Fitting
-pub mod Cutting
-pub mod Serving
-pub mod Going
-pub mod Steps
-pub mod Ending
-pub mod Reading

@@ -1,0 +1,12 @@
+//! A play: the script that a source gives, run over a device that is opened on a disk, in the order that a number
+//! draws.
+#![tactic(auto)]
+
+mod commits;
+mod faults;
+mod plays;
+mod streams;
+
+pub use commits::has_committed;
+pub use faults::PlayFault;
+pub use plays::play;

@@ -1,0 +1,15 @@
+-- How the transcript of a play is told.
+use Rattle.std.specs.Prelude.{◌≡◌, ℕ, Bool, true, false, List, ◌++◌}
+use Rattle.bow_tool.specs.declared.outcomes.Outcome.{Outcome}
+use Rattle.bow_tool.specs.declared.outcomes.Outcome.TheVariants.{Done, Refused, NotCleared}
+use Rattle.bow_tool.specs.declared.refusals.Refusal.TheVariants.{KeeperFault, NoMemory}
+use Rattle.bow_tool.specs.Refusals.{refusal_line}
+
+-- the transcript is told, with the line of the keeper's fault where the attempts were not cleared; or there was no
+-- memory for that line
+abbrev pub IsTranscriptTold : List ℕ → Bool → Outcome → Type 0
+IsTranscriptTold text true (Done told) = told.items ≡ text
+IsTranscriptTold text false (Done told) = ⊥
+IsTranscriptTold text true (NotCleared told) = ⊥
+IsTranscriptTold text false (NotCleared told) = told.items ≡ text ++ refusal_line KeeperFault
+IsTranscriptTold text cleared (Refused refusal) = refusal ≡ NoMemory

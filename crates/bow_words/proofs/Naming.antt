@@ -1,0 +1,91 @@
+-- Each command has one name, and each name is one word.
+use Rattle.std.proofs.Common.{◌≡◌, ◌==◌, ◌∙◌, ◌+◌, ◌*◌, ℕ, Bool, Option, refl, sym, ap, subst, length, get_or}
+use Rattle.std.specs.Prelude.{if◌then◌else◌}
+use Rattle.clap.specs.Words.{Text}
+use Rattle.bow_words.specs.Names.{text_of}
+use Rattle.bow_words.specs.Words.{name_of}
+use Rattle.bow_words.specs.declared.names.Name.{Name}
+use Rattle.bow_words.specs.declared.names.Name.TheVariants.{Play, Restore, Check, Forward, Start, Mark, NeedsCheckpoint, NeedsRollback, Abort, Boot}
+use Rattle.bow_words.specs.declared.commands.Command.{Command}
+use Rattle.bow_words.specs.declared.commands.Command.TheVariants as command
+
+-- a name can be told from its first byte and its length
+abbrev told_by : ℕ → Name
+told_by n =
+    if n == 100 * 112 + 4 then Play else (if n == 100 * 114 + 7 then Restore else (if n == 100 * 99 + 5 then Check
+    else (if n == 100 * 102 + 7 then Forward else (if n == 100 * 115 + 5 then Start else (if n == 100 * 109 + 4 then Mark
+    else (if n == 100 * 110 + 16 then NeedsCheckpoint else (if n == 100 * 110 + 14 then NeedsRollback
+    else (if n == 100 * 97 + 5 then Abort else Boot))))))))
+
+abbrev number_of : Text → ℕ
+number_of word = 100 * get_or word 0 0 + length word
+
+told : (name : Name) → told_by (number_of (text_of name)) ≡ name
+told Play = refl
+told Restore = refl
+told Check = refl
+told Forward = refl
+told Start = refl
+told Mark = refl
+told NeedsCheckpoint = refl
+told NeedsRollback = refl
+told Abort = refl
+told Boot = refl
+
+-- names with one word are one name
+pub same_name : (a b : Name) → text_of a ≡ text_of b → a ≡ b
+same_name a b is = sym (told a) ∙ ap (λ word. told_by (number_of word)) is ∙ told b
+
+-- the name of a command
+abbrev pub kind_of : Command → Name
+kind_of (command.Play n) = Play
+kind_of (command.Restore limit) = Restore
+kind_of command.Check = Check
+kind_of command.Forward = Forward
+kind_of (command.Start n) = Start
+kind_of command.Mark = Mark
+kind_of command.NeedsCheckpoint = NeedsCheckpoint
+kind_of command.NeedsRollback = NeedsRollback
+kind_of (command.Abort retry) = Abort
+kind_of command.Boot = Boot
+
+-- the commands of a name
+abbrev pub IsNamed : Name → Command → Type 0
+IsNamed Play c = (n : ℕ) × (c ≡ command.Play n)
+IsNamed Restore c = (limit : Option ℕ) × (c ≡ command.Restore limit)
+IsNamed Check c = c ≡ command.Check
+IsNamed Forward c = c ≡ command.Forward
+IsNamed Start c = (n : ℕ) × (c ≡ command.Start n)
+IsNamed Mark c = c ≡ command.Mark
+IsNamed NeedsCheckpoint c = c ≡ command.NeedsCheckpoint
+IsNamed NeedsRollback c = c ≡ command.NeedsRollback
+IsNamed Abort c = (retry : Bool) × (c ≡ command.Abort retry)
+IsNamed Boot c = c ≡ command.Boot
+
+pub spelled : (c : Command) → name_of c ≡ text_of (kind_of c)
+spelled (command.Play n) = refl
+spelled (command.Restore limit) = refl
+spelled command.Check = refl
+spelled command.Forward = refl
+spelled (command.Start n) = refl
+spelled command.Mark = refl
+spelled command.NeedsCheckpoint = refl
+spelled command.NeedsRollback = refl
+spelled (command.Abort retry) = refl
+spelled command.Boot = refl
+
+pub of_kind : (c : Command) → IsNamed (kind_of c) c
+of_kind (command.Play n) = (n, refl)
+of_kind (command.Restore limit) = (limit, refl)
+of_kind command.Check = refl
+of_kind command.Forward = refl
+of_kind (command.Start n) = (n, refl)
+of_kind command.Mark = refl
+of_kind command.NeedsCheckpoint = refl
+of_kind command.NeedsRollback = refl
+of_kind (command.Abort retry) = (retry, refl)
+of_kind command.Boot = refl
+
+-- a command with the word of a name is one of that name
+pub named : (name : Name) (c : Command) → name_of c ≡ text_of name → IsNamed name c
+named name c is = subst (λ k. IsNamed k c) (same_name (kind_of c) name (sym (spelled c) ∙ is)) (of_kind c)

@@ -1,0 +1,13 @@
+//! The words of the command line: which command they ask for.
+#![tactic(auto)]
+
+mod clap_words;
+mod commands;
+mod faults;
+mod laws;
+mod names;
+mod own_words;
+
+pub use commands::{Command, read_words};
+pub use faults::WordsFault;
+pub use laws::words_law;
