@@ -1,0 +1,10 @@
+//! The checkpoint, read beside running writers: each block of it lies where the log in memory and the older logs have
+//! put it. The older logs are read off the disk one by one, and none of them changes while the checkpoint stands.
+#![tactic(auto)]
+
+mod laws;
+mod places;
+mod reading;
+
+pub use laws::past_law;
+pub use reading::{OlderFault, read_block, read_older};

@@ -1,0 +1,5 @@
+pub mod Flushed
+pub mod Played
+pub mod Promised
+pub mod Recovered
+pub mod Ways

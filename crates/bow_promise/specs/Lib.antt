@@ -1,0 +1,5 @@
+pub mod Cutting
+pub mod Flushing
+pub mod Played
+pub mod Promises
+pub mod Recovering
