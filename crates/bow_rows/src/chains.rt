@@ -1,19 +1,21 @@
 // What `check` tells of an image, and what the image keeps of the checkpoint.
-use crate::bench::{I16, SEVEN, check, check_words, run_over, sample_image};
-use crate::images::{flip, front, one_log, prepared, set, state_first_sum, sum_at, two_logs};
+use crate::images::{
+    flip, front, one_log, patterns, prepared, set, state_first_sum, sum_at, two_logs,
+};
+use crate::phones::{phone_with, run};
 use bow_chain::load;
 use bow_disk::{FailMode, MemDisk};
-use bow_units::{Geometry, MemSource, pattern_of};
+use bow_units::{Geometry, pattern_of};
 use std::alloc::Global;
 use std::fmt::Write;
 use std::test::Fail;
 
 // Whether `check` ends with this status and this text, and leaves the image.
 fn tells(alloc: Global, image: &[u8], status: u8, text: &str) -> Result<bool, Fail> {
-    let ran = check(alloc, image)?;
+    let ran = run(alloc, &phone_with(image.to_vec(alloc)?), &["check"], "")?;
     Ok(
         ran.status == status
-            && ran.text.as_slice() == text.as_bytes()
+            && ran.told.as_slice() == text.as_bytes()
             && ran.image.as_slice() == image,
     )
 }
@@ -138,7 +140,7 @@ fn keeps_block(alloc: Global, image: &[u8], block: u64) -> Result<bool, Fail> {
 }
 
 // So of each block below this one.
-fn keeps(alloc: Global, image: &[u8], blocks: u64) -> Result<bool, Fail> {
+pub(crate) fn keeps(alloc: Global, image: &[u8], blocks: u64) -> Result<bool, Fail> {
     for block in 0..blocks {
         if !keeps_block(alloc, image, block)? {
             return Ok(false);
@@ -150,7 +152,7 @@ fn keeps(alloc: Global, image: &[u8], blocks: u64) -> Result<bool, Fail> {
 #[test]
 fn sound_images_and_the_want_of_a_log(rt: HostRuntime) -> Result<(), Fail> {
     let alloc = rt.alloc();
-    assert!(rt; tells(alloc, &sample_image(alloc)?, 0, "no log\n")?);
+    assert!(rt; tells(alloc, &patterns(alloc, 16)?, 0, "no log\n")?);
     assert!(rt; tells_one_log(alloc, &prepared(alloc)?, 1)?);
     assert!(rt; tells_one_log(alloc, &one_log(alloc)?, 2)?);
     assert!(rt; tells_two_logs(alloc, &two_logs(alloc)?)?);
@@ -217,14 +219,11 @@ fn the_blocks_in_use_are_kept(rt: HostRuntime) -> Result<(), Fail> {
 #[test]
 fn the_disk_fails_or_states_seven_blocks(rt: HostRuntime) -> Result<(), Fail> {
     let alloc = rt.alloc();
-    let words = check_words(alloc)?;
-    let mut source = MemSource::new(alloc, Vec::new(alloc));
-    let mut disk = MemDisk::new(alloc, I16, sample_image(alloc)?, 0)?;
-    disk.fail_at(1, FailMode::Lost)?;
-    let ran = run_over(alloc, &words, disk, &mut source)?;
-    assert!(rt; ran.status == 6 && ran.text.as_slice() == b"disk fault\n".as_slice());
-    let disk = MemDisk::new(alloc, SEVEN, vec![in alloc; 0u8; 3584]?, 0)?;
-    let ran = run_over(alloc, &words, disk, &mut source)?;
-    assert!(rt; ran.status == 13 && ran.text.as_slice() == b"bad geometry 512 7\n".as_slice());
+    let mut failing = phone_with(patterns(alloc, 16)?);
+    failing.fails = Some((1, FailMode::Lost));
+    let ran = run(alloc, &failing, &["check"], "")?;
+    assert!(rt; ran.status == 6 && ran.told.as_slice() == b"disk fault\n".as_slice());
+    let ran = run(alloc, &phone_with(patterns(alloc, 7)?), &["check"], "")?;
+    assert!(rt; ran.status == 13 && ran.told.as_slice() == b"bad geometry 512 7\n".as_slice());
     Ok(())
 }

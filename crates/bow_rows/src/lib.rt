@@ -3,14 +3,22 @@
 #![tactic(auto)]
 
 #[cfg(test)]
-mod bench;
-#[cfg(test)]
 mod boots;
 #[cfg(test)]
 mod chains;
 #[cfg(test)]
+mod device;
+#[cfg(test)]
 mod images;
 #[cfg(test)]
-mod plain;
+mod phases;
+#[cfg(test)]
+mod phones;
+#[cfg(test)]
+mod promises;
 #[cfg(test)]
 mod restorations;
+#[cfg(test)]
+mod sessions;
+#[cfg(test)]
+mod words;
