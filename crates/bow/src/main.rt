@@ -1,31 +1,57 @@
 //! The program `bow`: Android's User Data Checkpoint for block devices, over an image in a file.
 //!
 //! `bow IMAGE ATTEMPTS BLOCK COMMAND` does what the command asks for, with the number of attempts that is kept in the
-//! file ATTEMPTS: `play NUMBER` runs the script of standard input over the image; `restore`, `check` and `forward` work
-//! on the checkpoint that the image keeps; `start N`, `mark`, `abort`, `needs-checkpoint` and `needs-rollback` work on
-//! the attempts; and `boot` does what a phone does as it boots. What it tells goes to standard output. It ends with the
-//! status of `bow_tool::tool`.
+//! file ATTEMPTS: `play NUMBER` runs the script of standard input over the image on one thread, and `run SERVERS` by
+//! threads; `restore`, `check` and `forward` work on the checkpoint that the image keeps; `start N`, `mark`, `abort`,
+//! `needs-checkpoint` and `needs-rollback` work on the attempts; and `boot` does what a phone does as it boots. What it
+//! tells goes to standard output. It ends with the status of `bow_tool::tool`.
 #![tactic(auto)]
 
 use bow_disk::FileDisk;
 use bow_tool::tool;
-use bow_units::{NoMemory, ReadSource, WriteSink};
+use bow_units::{NoMemory, OpenGate, ReadSource, WriteSink};
 use std::io;
 use std::process::ExitCode;
 use vold_meta::FileKeeper;
 
 fn main(rt: HostRuntime) -> ExitCode {
-    match run(&rt) {
-        Ok(status) => ExitCode::from(status),
-        Err(NoMemory) => {
-            let _ = println!(&rt; "no memory");
-            ExitCode::from(11)
-        }
-    }
+    let Ok(
+        Given {
+            words,
+            disk,
+            keeper,
+        },
+    ) = read_given(&rt)
+    else {
+        let _ = println!(&rt; "no memory");
+        return ExitCode::from(11);
+    };
+    let mut source = ReadSource::new(rt.reader());
+    let mut sink = WriteSink::new(io::writer(&rt));
+    let gate = OpenGate;
+    let ended = tool(
+        &rt,
+        rt.alloc(),
+        &words,
+        disk,
+        keeper,
+        &mut source,
+        &mut sink,
+        &gate,
+    );
+    ExitCode::from(ended.status)
 }
 
-// Does what the words of the command line ask for, and gives the status.
-fn run(rt: &HostRuntime) -> Result<u8, NoMemory> {
+// What the command line gives: its words, and the image and the attempts that they name.
+#[derive(Drop)]
+struct Given {
+    words: Vec<String>,
+    disk: FileDisk<HostRuntime>,
+    keeper: FileKeeper<HostRuntime>,
+}
+
+// What the command line gives. In place of a word that is missing a path is empty, and the block size is 512.
+fn read_given(rt: &HostRuntime) -> Result<Given, NoMemory> {
     let alloc = rt.alloc();
     let words = words(rt)?;
     let image = match words.first() {
@@ -48,9 +74,11 @@ fn run(rt: &HostRuntime) -> Result<u8, NoMemory> {
         return Err(NoMemory);
     };
     let keeper = FileKeeper::new(alloc, files, attempts)?;
-    let mut source = ReadSource::new(rt.reader());
-    let mut sink = WriteSink::new(io::writer(rt));
-    Ok(tool(alloc, &words, disk, keeper, &mut source, &mut sink).status)
+    Ok(Given {
+        words,
+        disk,
+        keeper,
+    })
 }
 
 // The words after the program's name, and none where one of them is no text.

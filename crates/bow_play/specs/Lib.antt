@@ -1,5 +1,5 @@
+pub mod Beginning
 pub mod Committing
-pub mod Ending
 pub mod Leading
 pub mod Playing
 pub mod Reading

@@ -1,5 +1,5 @@
 //! A play: the script that a source gives, run over a device that is opened on a disk, in the order that a number
-//! draws.
+//! draws; or loaded alone, for callers that make its steps by themselves.
 #![tactic(auto)]
 
 mod commits;
@@ -9,4 +9,4 @@ mod streams;
 
 pub use commits::has_committed;
 pub use faults::PlayFault;
-pub use plays::play;
+pub use plays::{load, play};

@@ -13,7 +13,7 @@ ghost use Rattle.bow_history.specs.DiskCuts.{StandsAheadToo};
 ghost use Rattle.bow_history.specs.Promises.{faults_in, held};
 ghost use Rattle.bow_session.specs.Sessions.{IsOver, plan_in};
 ghost use Rattle.bow_play.specs.Leading.{PlayLeads};
-ghost use Rattle.bow_play.specs.Ending.{Ran};
+ghost use Rattle.bow_play.specs.Beginning.{HasBegun};
 ghost use Rattle.bow_play.specs.Playing.{DiskCause, IsPlay, PlayCause, fault_for};
 ghost use Rattle.bow_play.specs.Reading.{GaveScript, ScriptCause};
 
@@ -70,8 +70,33 @@ pub fn play<D: Disk, R: Ranges + Drop, S: Source>(
     ensures kept { IfErr result (λ e. KeepsImage D.stated D.content D.moment D.left_since D.faults disk e.1) }
     ensures clock { IfErr result (λ e. (c : Content) → D.content disk ≡ Some c → D.moment e.1 ≤ D.moment disk + 2) }
 {
+    let mut session = match load(alloc, disk, source) {
+        Ok(session) => session,
+        Err(refused) => return Err(refused),
+    };
+    session.finish(number);
+    Ok(session)
+}
+
+/// Reads a script from the source, as `play` does; opens a device of 16 places on the disk; and loads the script over
+/// it. The session that is handed back has made no step, and it has all the memory that it takes to the end of its
+/// requests.
+///
+/// Else the disk is handed back as by `play`, for the same causes.
+pub fn load<D: Disk, R: Ranges + Drop, S: Source>(
+    alloc: Global,
+    disk: D,
+    source: &mut S,
+) -> Result<Session<D, R>, (PlayFault, D)>
+    ensures given { IfOk result (λ s. GaveScript (S.left source.old) (S.left source.new) s.script) }
+    ensures begun { IfOk result (λ s. HasBegun D.stated D.content D.moment D.left_since D.faults disk s) }
+    ensures cause { IfErr result (λ e. PlayCause D.stated D.content D.moment D.faults (S.left source.old)
+        (S.left source.new) (S.faults source.old) (S.faults source.new) disk e.1 e.0) }
+    ensures kept { IfErr result (λ e. KeepsImage D.stated D.content D.moment D.left_since D.faults disk e.1) }
+    ensures clock { IfErr result (λ e. (c : Content) → D.content disk ≡ Some c → D.moment e.1 ≤ D.moment disk + 2) }
+{
     match take_script(alloc, source) {
-        Ok(script) => run(alloc, number, disk, script),
+        Ok(script) => open(alloc, disk, script),
         Err(fault) => Err((fault, disk)),
     }
 }
@@ -97,17 +122,16 @@ fn take_script<S: Source>(alloc: Global, source: &mut S) -> Result<Script, PlayF
     }
 }
 
-// Runs a script over a device that is opened on the disk.
-fn run<D: Disk, R: Ranges + Drop>(
+// Opens a device on the disk, and loads a script over it.
+fn open<D: Disk, R: Ranges + Drop>(
     alloc: Global,
-    number: u64,
     disk: D,
     script: Script,
 ) -> Result<Session<D, R>, (PlayFault, D)>
     requires limits { IsWithinLimits script }
     requires numbers { IsWellFormed script }
     ensures script { IfOk result (λ s. s.script ≡ script) }
-    ensures ran { IfOk result (λ s. Ran D.stated D.content D.moment D.left_since D.faults number disk s) }
+    ensures begun { IfOk result (λ s. HasBegun D.stated D.content D.moment D.left_since D.faults disk s) }
     ensures cause { IfErr result (λ e. DiskCause D.stated D.content D.moment D.faults disk e.1 e.0) }
     ensures kept { IfErr result (λ e. KeepsImage D.stated D.content D.moment D.left_since D.faults disk e.1) }
     ensures clock { IfErr result (λ e. (c : Content) → D.content disk ≡ Some c → D.moment e.1 ≤ D.moment disk + 2) }
@@ -116,12 +140,10 @@ fn run<D: Disk, R: Ranges + Drop>(
         Ok(core) => core,
         Err((fault, disk)) => return Err((fault_of(fault), disk)),
     };
-    let mut session = match Session::load(alloc, core, script) {
-        Ok(session) => session,
-        Err((core, NoMemory)) => return Err((PlayFault::NoMemory, core.close())),
-    };
-    session.finish(number);
-    Ok(session)
+    match Session::load(alloc, core, script) {
+        Ok(session) => Ok(session),
+        Err((core, NoMemory)) => Err((PlayFault::NoMemory, core.close())),
+    }
 }
 
 fn fault_of(fault: OpenFault) -> PlayFault

@@ -8,11 +8,19 @@ use bow_disk::{FailMode, MemDisk};
 use bow_units::{Geometry, pattern_of};
 use std::alloc::Global;
 use std::fmt::Write;
+use std::sync::Wait;
 use std::test::Fail;
+use std::thread::Threads;
 
 // Whether `check` ends with this status and this text, and leaves the image.
-fn tells(alloc: Global, image: &[u8], status: u8, text: &str) -> Result<bool, Fail> {
-    let ran = run(alloc, &phone_with(image.to_vec(alloc)?), &["check"], "")?;
+fn tells<H: Threads + Wait + Sync>(
+    rt: &H,
+    alloc: Global,
+    image: &[u8],
+    status: u8,
+    text: &str,
+) -> Result<bool, Fail> {
+    let ran = run(rt, alloc, &phone_with(image.to_vec(alloc)?), &["check"], "")?;
     Ok(
         ran.status == status
             && ran.told.as_slice() == text.as_bytes()
@@ -37,18 +45,27 @@ fn push_entry(
 }
 
 // Whether `check` tells the one log of a device that was prepared, before a write or after one.
-fn tells_one_log(alloc: Global, image: &[u8], entries: u64) -> Result<bool, Fail> {
+fn tells_one_log<H: Threads + Wait + Sync>(
+    rt: &H,
+    alloc: Global,
+    image: &[u8],
+    entries: u64,
+) -> Result<bool, Fail> {
     let mut text = String::new(alloc);
     writeln!(text, "generation 0 magic log sector0 8 entries {entries}")?;
     for index in 0..entries.min(2) {
         push_entry(&mut text, image, index, index, index + 9)?;
     }
     writeln!(text, "sound")?;
-    tells(alloc, image, 0, text.as_str())
+    tells(rt, alloc, image, 0, text.as_str())
 }
 
 // Whether `check` tells two logs, the first of which is full.
-fn tells_two_logs(alloc: Global, image: &[u8]) -> Result<bool, Fail> {
+fn tells_two_logs<H: Threads + Wait + Sync>(
+    rt: &H,
+    alloc: Global,
+    image: &[u8],
+) -> Result<bool, Fail> {
     let mut text = String::new(alloc);
     writeln!(text, "generation 1 magic log sector0 30 entries 2")?;
     push_entry(&mut text, image, 0, 0, 51)?;
@@ -58,11 +75,12 @@ fn tells_two_logs(alloc: Global, image: &[u8]) -> Result<bool, Fail> {
         push_entry(&mut text, image, index, index, index + 31)?;
     }
     writeln!(text, "sound")?;
-    tells(alloc, image, 0, text.as_str())
+    tells(rt, alloc, image, 0, text.as_str())
 }
 
 // Whether `check` tells that this entry of the log in block 0 states another sum than is found.
-fn tells_sum(
+fn tells_sum<H: Threads + Wait + Sync>(
+    rt: &H,
     alloc: Global,
     image: &[u8],
     entry: u64,
@@ -72,25 +90,25 @@ fn tells_sum(
     let line = format!(in alloc;
         "bad chain: depth 0 entry {entry} sum {found:08x} stated {stated:08x}\n"
     )?;
-    tells(alloc, image, 9, line.as_str())
+    tells(rt, alloc, image, 9, line.as_str())
 }
 
 // The lowest bit of both sums is turned over: the last one is told.
-fn tells_both_sums(alloc: Global) -> Result<bool, Fail> {
+fn tells_both_sums<H: Threads + Wait + Sync>(rt: &H, alloc: Global) -> Result<bool, Fail> {
     let mut image = one_log(alloc)?;
     let right = sum_at(&image, 1, 10);
     flip(&mut image, 48);
     flip(&mut image, 72);
-    tells_sum(alloc, &image, 1, right, right ^ 1)
+    tells_sum(rt, alloc, &image, 1, right, right ^ 1)
 }
 
 // The lowest bit of the first byte of block 10 is turned over.
-fn tells_backup(alloc: Global) -> Result<bool, Fail> {
+fn tells_backup<H: Threads + Wait + Sync>(rt: &H, alloc: Global) -> Result<bool, Fail> {
     let mut image = one_log(alloc)?;
     let stated = sum_at(&image, 1, 10);
     flip(&mut image, 5120);
     let found = sum_at(&image, 1, 10);
-    tells_sum(alloc, &image, 1, found, stated)
+    tells_sum(rt, alloc, &image, 1, found, stated)
 }
 
 // Of two logs the older one, which lies in block 51, has these bytes at these places.
@@ -111,11 +129,15 @@ fn older_mended(alloc: Global, changes: &[(usize, u8)]) -> Result<Vec<u8>, Fail>
 }
 
 // The older log is changed so, and its sum is not mended.
-fn tells_older_changed(alloc: Global, changes: &[(usize, u8)]) -> Result<bool, Fail> {
+fn tells_older_changed<H: Threads + Wait + Sync>(
+    rt: &H,
+    alloc: Global,
+    changes: &[(usize, u8)],
+) -> Result<bool, Fail> {
     let stated = sum_at(&two_logs(alloc)?, 0, 51);
     let image = older_changed(alloc, changes)?;
     let found = sum_at(&image, 0, 51);
-    tells_sum(alloc, &image, 0, found, stated)
+    tells_sum(rt, alloc, &image, 0, found, stated)
 }
 
 // Whether what the image keeps of this block is the pattern with seed 0.
@@ -152,10 +174,10 @@ pub(crate) fn keeps(alloc: Global, image: &[u8], blocks: u64) -> Result<bool, Fa
 #[test]
 fn sound_images_and_the_want_of_a_log(rt: HostRuntime) -> Result<(), Fail> {
     let alloc = rt.alloc();
-    assert!(rt; tells(alloc, &patterns(alloc, 16)?, 0, "no log\n")?);
-    assert!(rt; tells_one_log(alloc, &prepared(alloc)?, 1)?);
-    assert!(rt; tells_one_log(alloc, &one_log(alloc)?, 2)?);
-    assert!(rt; tells_two_logs(alloc, &two_logs(alloc)?)?);
+    assert!(rt; tells(&rt, alloc, &patterns(alloc, 16)?, 0, "no log\n")?);
+    assert!(rt; tells_one_log(&rt, alloc, &prepared(alloc)?, 1)?);
+    assert!(rt; tells_one_log(&rt, alloc, &one_log(alloc)?, 2)?);
+    assert!(rt; tells_two_logs(&rt, alloc, &two_logs(alloc)?)?);
     Ok(())
 }
 
@@ -179,7 +201,7 @@ fn a_byte_of_a_log_is_wrong(rt: HostRuntime) -> Result<(), Fail> {
     ] {
         let mut hostile = image.as_slice().to_vec(alloc)?;
         set(&mut hostile, at, byte);
-        assert!(rt; tells(alloc, &hostile, 9, line)?, "byte {at}");
+        assert!(rt; tells(&rt, alloc, &hostile, 9, line)?, "byte {at}");
     }
     Ok(())
 }
@@ -187,10 +209,10 @@ fn a_byte_of_a_log_is_wrong(rt: HostRuntime) -> Result<(), Fail> {
 #[test]
 fn a_sum_is_wrong_or_a_dest_beyond_the_image(rt: HostRuntime) -> Result<(), Fail> {
     let alloc = rt.alloc();
-    assert!(rt; tells_both_sums(alloc)?);
-    assert!(rt; tells_backup(alloc)?);
+    assert!(rt; tells_both_sums(&rt, alloc)?);
+    assert!(rt; tells_backup(&rt, alloc)?);
     let short = front(alloc, &one_log(alloc)?, 5120)?;
-    assert!(rt; tells(alloc, &short, 9, "bad chain: depth 0 log entry 1\n")?);
+    assert!(rt; tells(&rt, alloc, &short, 9, "bad chain: depth 0 log entry 1\n")?);
     Ok(())
 }
 
@@ -199,11 +221,19 @@ fn the_older_of_two_logs_is_wrong(rt: HostRuntime) -> Result<(), Fail> {
     let alloc = rt.alloc();
     // The magic of a log under restoration.
     let restoring = [(0, 0x57), (2, 0x42)];
-    assert!(rt; tells_older_changed(alloc, &restoring)?);
+    assert!(rt; tells_older_changed(&rt, alloc, &restoring)?);
     let image = older_mended(alloc, &restoring)?;
-    assert!(rt; tells(alloc, &image, 9, "bad chain: depth 1 log no magic\n")?);
+    assert!(rt; tells(&rt, alloc, &image, 9, "bad chain: depth 1 log no magic\n")?);
     let image = older_mended(alloc, &[(16, 5)])?;
-    assert!(rt; tells(alloc, &image, 9, "bad chain: depth 1 sequence 5 wanted 0\n")?);
+    assert!(rt;
+        tells(
+            &rt,
+            alloc,
+            &image,
+            9,
+            "bad chain: depth 1 sequence 5 wanted 0\n"
+        )?
+    );
     Ok(())
 }
 
@@ -221,9 +251,9 @@ fn the_disk_fails_or_states_seven_blocks(rt: HostRuntime) -> Result<(), Fail> {
     let alloc = rt.alloc();
     let mut failing = phone_with(patterns(alloc, 16)?);
     failing.fails = Some((1, FailMode::Lost));
-    let ran = run(alloc, &failing, &["check"], "")?;
+    let ran = run(&rt, alloc, &failing, &["check"], "")?;
     assert!(rt; ran.status == 6 && ran.told.as_slice() == b"disk fault\n".as_slice());
-    let ran = run(alloc, &phone_with(patterns(alloc, 7)?), &["check"], "")?;
+    let ran = run(&rt, alloc, &phone_with(patterns(alloc, 7)?), &["check"], "")?;
     assert!(rt; ran.status == 13 && ran.told.as_slice() == b"bad geometry 512 7\n".as_slice());
     Ok(())
 }

@@ -21,4 +21,6 @@ mod restorations;
 #[cfg(test)]
 mod sessions;
 #[cfg(test)]
+mod threads;
+#[cfg(test)]
 mod words;

@@ -3,7 +3,9 @@ use crate::images::{flip, patterns};
 use crate::phones::{Phone, holds, is_back, keeps, phone_with, run, text};
 use bow_disk::FailMode;
 use std::alloc::Global;
+use std::sync::Wait;
 use std::test::Fail;
+use std::thread::Threads;
 
 const PREPARED: &str = "discard 8 8\nprepare\nwrite 1 1 5\n";
 
@@ -67,6 +69,7 @@ fn each_phase_is_told(rt: HostRuntime) -> Result<(), Fail> {
     for (script, told) in plays() {
         for number in ["0", "7"] {
             let ran = run(
+                &rt,
                 alloc,
                 &phone_with(patterns(alloc, 16)?),
                 &["play", number],
@@ -80,14 +83,20 @@ fn each_phase_is_told(rt: HostRuntime) -> Result<(), Fail> {
 }
 
 // What `check` tells of the image that this script leaves of so many blocks.
-fn checked(alloc: Global, blocks: usize, script: &str) -> Result<Vec<u8>, Fail> {
+fn checked<H: Threads + Wait + Sync>(
+    rt: &H,
+    alloc: Global,
+    blocks: usize,
+    script: &str,
+) -> Result<Vec<u8>, Fail> {
     let ran = run(
+        rt,
         alloc,
         &phone_with(patterns(alloc, blocks)?),
         &["play", "0"],
         script,
     )?;
-    let check = run(alloc, &phone_with(ran.image), &["check"], "")?;
+    let check = run(rt, alloc, &phone_with(ran.image), &["check"], "")?;
     Ok(check.told)
 }
 
@@ -121,7 +130,10 @@ fn the_logs_that_plays_leave(rt: HostRuntime) -> Result<(), Fail> {
         ),
         ("discard 8 8\nprepare\nwrite 1 1 5\ncommit\n", "no log\n"),
     ] {
-        assert_eq!(rt; checked(alloc, 16, script)?.as_slice(), lines.as_bytes());
+        assert_eq!(rt;
+            checked(&rt, alloc, 16, script)?.as_slice(),
+            lines.as_bytes()
+        );
     }
     Ok(())
 }
@@ -134,7 +146,7 @@ fn a_full_log_is_followed_by_a_second_one(rt: HostRuntime) -> Result<(), Fail> {
         let line = format!(in alloc; "write {block} 1 5\n")?;
         script.push_str(line.as_str())?;
     }
-    let lines = checked(alloc, 64, script.as_str())?;
+    let lines = checked(&rt, alloc, 64, script.as_str())?;
     let newest =
         "generation 1 magic log sector0 30 entries 2\nentry 0 source 0 dest 51 size 512 sum df6050eb\n\
         entry 1 source 20 dest 52 size 512 sum 47ae9275\ngeneration 0 magic log sector0 30 entries 20\n\
@@ -145,8 +157,19 @@ fn a_full_log_is_followed_by_a_second_one(rt: HostRuntime) -> Result<(), Fail> {
 }
 
 // Whether a restoration of this image ends well and has the blocks below this one back.
-fn comes_back(alloc: Global, image: &[u8], blocks: usize) -> Result<bool, Fail> {
-    let ran = run(alloc, &phone_with(image.to_vec(alloc)?), &["restore"], "")?;
+fn comes_back<H: Threads + Wait + Sync>(
+    rt: &H,
+    alloc: Global,
+    image: &[u8],
+    blocks: usize,
+) -> Result<bool, Fail> {
+    let ran = run(
+        rt,
+        alloc,
+        &phone_with(image.to_vec(alloc)?),
+        &["restore"],
+        "",
+    )?;
     Ok(ran.status == 0 && is_back(&ran.oldest, blocks) && is_back(&ran.newest, blocks))
 }
 
@@ -154,6 +177,7 @@ fn comes_back(alloc: Global, image: &[u8], blocks: usize) -> Result<bool, Fail> 
 fn whatever_a_cut_before_the_commit_leaves_comes_back(rt: HostRuntime) -> Result<(), Fail> {
     let alloc = rt.alloc();
     let whole = run(
+        &rt,
         alloc,
         &phone_with(patterns(alloc, 16)?),
         &["play", "0"],
@@ -163,9 +187,11 @@ fn whatever_a_cut_before_the_commit_leaves_comes_back(rt: HostRuntime) -> Result
     for calls in 2..15u64 {
         let mut cut = phone_with(patterns(alloc, 16)?);
         cut.stops = Some(calls);
-        let ran = run(alloc, &cut, &["play", "0"], PREPARED)?;
+        let ran = run(&rt, alloc, &cut, &["play", "0"], PREPARED)?;
         assert_eq!(rt; ran.status, 0);
-        assert!(rt; comes_back(alloc, &ran.oldest, 8)? && comes_back(alloc, &ran.newest, 8)?);
+        assert!(rt;
+            comes_back(&rt, alloc, &ran.oldest, 8)? && comes_back(&rt, alloc, &ran.newest, 8)?
+        );
     }
     Ok(())
 }
@@ -176,15 +202,15 @@ fn the_deciding_write_decides(rt: HostRuntime) -> Result<(), Fail> {
     let script = "discard 8 8\nprepare\nwrite 1 1 5\ncommit\n";
     let mut cut = phone_with(patterns(alloc, 16)?);
     cut.stops = Some(17);
-    let ran = run(alloc, &cut, &["play", "0"], script)?;
+    let ran = run(&rt, alloc, &cut, &["play", "0"], script)?;
     assert!(rt; ran.told.ends_with(b"0.3 disk fault after 0\n"));
-    let back = run(alloc, &phone_with(ran.oldest), &["restore"], "")?;
+    let back = run(&rt, alloc, &phone_with(ran.oldest), &["restore"], "")?;
     assert_eq!(rt;
         back.told.as_slice(),
         b"restored entries 2 marks 0\n".as_slice()
     );
     assert!(rt; is_back(&back.image, 8));
-    let on = run(alloc, &phone_with(ran.newest), &["restore"], "")?;
+    let on = run(&rt, alloc, &phone_with(ran.newest), &["restore"], "")?;
     assert_eq!(rt; on.told.as_slice(), b"nothing to restore\n".as_slice());
     assert!(rt; holds(&on.image, 1, 5));
     Ok(())
@@ -197,7 +223,7 @@ fn a_commit_that_failed_is_made_again(rt: HostRuntime) -> Result<(), Fail> {
         "discard 8 8\nprepare\nwrite 1 1 5\ncommit\nwrite 2 1 5\ncommit\nwrite 2 1 5\nread 2 1\n";
     let mut failing = phone_with(patterns(alloc, 16)?);
     failing.fails = Some((17, FailMode::Lost));
-    let ran = run(alloc, &failing, &["play", "0"], script)?;
+    let ran = run(&rt, alloc, &failing, &["play", "0"], script)?;
     let told =
         "0.0 done\n0.1 done\n0.2 wrote 1\n0.2 done\n0.3 disk fault after 0\n0.4 unsettled deciding\n\
         0.5 done\n0.6 wrote 2\n0.6 done\n0.7 got 2 pattern 2 5\n0.7 data\n";
@@ -211,11 +237,11 @@ fn a_log_write_that_failed_is_made_again(rt: HostRuntime) -> Result<(), Fail> {
     let script = "discard 8 8\nprepare\nwrite 1 1 5\nwrite 1 1 8\n";
     let mut failing = phone_with(patterns(alloc, 16)?);
     failing.fails = Some((12, FailMode::Kept));
-    let ran = run(alloc, &failing, &["play", "0"], script)?;
+    let ran = run(&rt, alloc, &failing, &["play", "0"], script)?;
     let told = "0.0 done\n0.1 done\n0.2 disk fault after 0\n0.3 wrote 1\n0.3 done\n";
     assert_eq!(rt; ran.told.as_slice(), told.as_bytes());
     assert_eq!(rt; ran.calls, 15);
-    assert!(rt; comes_back(alloc, &ran.newest, 8)?);
+    assert!(rt; comes_back(&rt, alloc, &ran.newest, 8)?);
     Ok(())
 }
 
@@ -225,7 +251,7 @@ fn a_prepare_that_failed_is_made_again(rt: HostRuntime) -> Result<(), Fail> {
     let script = "discard 8 8\nprepare\nwrite 1 1 5\nprepare\nwrite 1 1 5\n";
     let mut failing = phone_with(patterns(alloc, 16)?);
     failing.fails = Some((7, FailMode::Lost));
-    let ran = run(alloc, &failing, &["play", "0"], script)?;
+    let ran = run(&rt, alloc, &failing, &["play", "0"], script)?;
     let told =
         "0.0 done\n0.1 disk fault after 0\n0.2 unsettled arming\n0.3 done\n0.4 wrote 1\n0.4 done\n";
     assert_eq!(rt; ran.told.as_slice(), told.as_bytes());
@@ -236,17 +262,24 @@ fn a_prepare_that_failed_is_made_again(rt: HostRuntime) -> Result<(), Fail> {
 fn a_checkpoint_is_not_played_over(rt: HostRuntime) -> Result<(), Fail> {
     let alloc = rt.alloc();
     let ran = run(
+        &rt,
         alloc,
         &phone_with(patterns(alloc, 16)?),
         &["play", "0"],
         FULL,
     )?;
     let image = ran.image;
-    let again = run(alloc, &phone_with(image.to_vec(alloc)?), &["play", "0"], "")?;
+    let again = run(
+        &rt,
+        alloc,
+        &phone_with(image.to_vec(alloc)?),
+        &["play", "0"],
+        "",
+    )?;
     assert_eq!(rt; again.status, 8);
     assert_eq!(rt; again.told.as_slice(), b"needs restore\n".as_slice());
     assert_eq!(rt; again.image, image);
-    let back = run(alloc, &phone_with(image), &["restore"], "")?;
+    let back = run(&rt, alloc, &phone_with(image), &["restore"], "")?;
     assert_eq!(rt;
         back.told.as_slice(),
         b"restored entries 2 marks 0\n".as_slice()
@@ -260,6 +293,7 @@ fn a_limited_restoration_is_stopped(rt: HostRuntime) -> Result<(), Fail> {
     let alloc = rt.alloc();
     let script = "discard 8 8\nprepare\nwrite 1 1 5\nwrite 10 1 6\n";
     let mut image = run(
+        &rt,
         alloc,
         &phone_with(patterns(alloc, 16)?),
         &["play", "0"],
@@ -267,18 +301,24 @@ fn a_limited_restoration_is_stopped(rt: HostRuntime) -> Result<(), Fail> {
     )?
     .image;
     for _ in 0..3 {
-        let ran = run(alloc, &phone_with(image), &["restore", "--limit", "1"], "")?;
+        let ran = run(
+            &rt,
+            alloc,
+            &phone_with(image),
+            &["restore", "--limit", "1"],
+            "",
+        )?;
         assert_eq!(rt; ran.status, 12);
         assert_eq!(rt; ran.told.as_slice(), b"stopped after 1 writes\n".as_slice());
         image = ran.image;
     }
-    let back = run(alloc, &phone_with(image), &["restore"], "")?;
+    let back = run(&rt, alloc, &phone_with(image), &["restore"], "")?;
     assert_eq!(rt;
         back.told.as_slice(),
         b"restored entries 3 marks 0\n".as_slice()
     );
     assert!(rt; is_back(&back.image, 8));
-    let last = run(alloc, &phone_with(back.image), &["restore"], "")?;
+    let last = run(&rt, alloc, &phone_with(back.image), &["restore"], "")?;
     assert_eq!(rt; last.told.as_slice(), b"nothing to restore\n".as_slice());
     Ok(())
 }
@@ -287,6 +327,7 @@ fn a_limited_restoration_is_stopped(rt: HostRuntime) -> Result<(), Fail> {
 fn a_damaged_backup_is_told_and_may_be_given_up(rt: HostRuntime) -> Result<(), Fail> {
     let alloc = rt.alloc();
     let mut image = run(
+        &rt,
         alloc,
         &phone_with(patterns(alloc, 16)?),
         &["play", "0"],
@@ -296,15 +337,15 @@ fn a_damaged_backup_is_told_and_may_be_given_up(rt: HostRuntime) -> Result<(), F
     flip(&mut image, 5120);
     let told = b"bad chain: depth 0 entry 1 sum bcbd0448 stated accfdf60\n".as_slice();
     for own in [["check"], ["restore"]] {
-        let ran = run(alloc, &phone_with(image.to_vec(alloc)?), &own, "")?;
+        let ran = run(&rt, alloc, &phone_with(image.to_vec(alloc)?), &own, "")?;
         assert_eq!(rt; ran.status, 9);
         assert_eq!(rt; ran.told.as_slice(), told);
         assert_eq!(rt; ran.image, image);
     }
-    let on = run(alloc, &phone_with(image), &["forward"], "")?;
+    let on = run(&rt, alloc, &phone_with(image), &["forward"], "")?;
     assert_eq!(rt; on.told.as_slice(), b"forwarded\n".as_slice());
     assert!(rt; holds(&on.image, 0, 0) && holds(&on.image, 1, 5));
-    let last = run(alloc, &phone_with(on.image), &["forward"], "")?;
+    let last = run(&rt, alloc, &phone_with(on.image), &["forward"], "")?;
     assert_eq!(rt; last.told.as_slice(), b"nothing to forward\n".as_slice());
     Ok(())
 }
@@ -324,7 +365,7 @@ fn an_update_that_is_never_committed_is_rolled_back(rt: HostRuntime) -> Result<(
         (["boot"].as_slice(), "", "rolled back\n"),
         (["boot"].as_slice(), "", "plain\n"),
     ] {
-        let ran = run(alloc, &old, own, script)?;
+        let ran = run(&rt, alloc, &old, own, script)?;
         assert_eq!(rt; ran.status, 0);
         assert_eq!(rt; ran.told.as_slice(), told.as_bytes());
         old = phone_with(ran.image);
@@ -332,7 +373,7 @@ fn an_update_that_is_never_committed_is_rolled_back(rt: HostRuntime) -> Result<(
     }
     assert!(rt; is_back(&old.image, 8) && old.kept.is_none());
     old.kept = Some(text(b"007"));
-    let bad = run(alloc, &old, &["boot"], "")?;
+    let bad = run(&rt, alloc, &old, &["boot"], "")?;
     assert_eq!(rt; bad.status, 10);
     assert_eq!(rt; bad.told.as_slice(), b"bad attempts\n".as_slice());
     Ok(())
@@ -350,7 +391,7 @@ fn attempts_go_from_command_to_command(rt: HostRuntime) -> Result<(), Fail> {
         (["needs-rollback"].as_slice(), "yes\n"),
         (["needs-checkpoint"].as_slice(), "no\n"),
     ] {
-        let ran = run(alloc, &old, own, "")?;
+        let ran = run(&rt, alloc, &old, own, "")?;
         assert_eq!(rt; ran.status, 0);
         assert_eq!(rt; ran.told.as_slice(), told.as_bytes());
         assert_eq!(rt; ran.calls, 0);
@@ -366,11 +407,11 @@ fn a_commit_drops_the_attempts(rt: HostRuntime) -> Result<(), Fail> {
     let told = "0.0 done\n0.1 done\n0.2 wrote 1\n0.2 done\n0.3 done\n";
     let mut started = phone_with(patterns(alloc, 16)?);
     started.kept = Some(text(b"4"));
-    let ran = run(alloc, &started, &["play", "0"], script)?;
+    let ran = run(&rt, alloc, &started, &["play", "0"], script)?;
     assert_eq!(rt; ran.status, 0);
     assert!(rt; ran.kept.is_none());
     started.keeper_fails = Some(1);
-    let ran = run(alloc, &started, &["play", "0"], script)?;
+    let ran = run(&rt, alloc, &started, &["play", "0"], script)?;
     assert_eq!(rt; ran.status, 7);
     let line = format!(in alloc; "{told}keeper fault\n")?;
     assert_eq!(rt; ran.told.as_slice(), line.as_bytes());
@@ -379,14 +420,15 @@ fn a_commit_drops_the_attempts(rt: HostRuntime) -> Result<(), Fail> {
 }
 
 // The phone ends with this status and this line, after so many calls of its disk, and its image is as it was.
-fn refuses(
+fn refuses<H: Threads + Wait + Sync>(
+    rt: &H,
     alloc: Global,
     phone: &Phone,
     script: &str,
     status: u8,
     line: &str,
 ) -> Result<bool, Fail> {
-    let ran = run(alloc, phone, &["play", "0"], script)?;
+    let ran = run(rt, alloc, phone, &["play", "0"], script)?;
     Ok(ran.status == status && ran.told.as_slice() == line.as_bytes() && ran.image == phone.image)
 }
 
@@ -396,18 +438,19 @@ fn failing_ends_have_their_statuses(rt: HostRuntime) -> Result<(), Fail> {
     let script = "write 15 1 7\nread 15 1\n";
     let mut one = phone_with(patterns(alloc, 16)?);
     one.source_fails = Some(2);
-    assert!(rt; refuses(alloc, &one, script, 4, "source fault\n")?);
+    assert!(rt; refuses(&rt, alloc, &one, script, 4, "source fault\n")?);
     one = phone_with(patterns(alloc, 16)?);
     one.hides_sizes = true;
-    assert!(rt; refuses(alloc, &one, script, 6, "disk fault\n")?);
+    assert!(rt; refuses(&rt, alloc, &one, script, 6, "disk fault\n")?);
     one = phone_with(patterns(alloc, 16)?);
     one.fails = Some((1, FailMode::Lost));
-    assert!(rt; refuses(alloc, &one, script, 6, "disk fault\n")?);
+    assert!(rt; refuses(&rt, alloc, &one, script, 6, "disk fault\n")?);
     one = phone_with(patterns(alloc, 7)?);
-    assert!(rt; refuses(alloc, &one, script, 13, "bad geometry 512 7\n")?);
+    assert!(rt; refuses(&rt, alloc, &one, script, 13, "bad geometry 512 7\n")?);
     one = phone_with(patterns(alloc, 16)?);
     assert!(rt;
         refuses(
+            &rt,
             alloc,
             &one,
             "write 1 1 5\nwrit 2\n",
@@ -416,10 +459,10 @@ fn failing_ends_have_their_statuses(rt: HostRuntime) -> Result<(), Fail> {
         )?
     );
     one.sink_fails = Some(1);
-    let ran = run(alloc, &one, &["play", "0"], script)?;
+    let ran = run(&rt, alloc, &one, &["play", "0"], script)?;
     assert_eq!(rt; ran.status, 5);
     assert!(rt; holds(&ran.image, 15, 7) && ran.told.is_empty());
-    let bad = run(alloc, &one, &["play"], "")?;
+    let bad = run(&rt, alloc, &one, &["play"], "")?;
     assert_eq!(rt; bad.calls, 0);
     Ok(())
 }
@@ -430,7 +473,13 @@ fn a_failing_write_is_a_line_and_reads_tell_what_it_left(rt: HostRuntime) -> Res
     let mut failing = phone_with(patterns(alloc, 16)?);
     // Calls 1 and 2 are the opening's, calls 3 and 4 are the writes of blocks 1 and 2.
     failing.fails = Some((4, FailMode::Kept));
-    let ran = run(alloc, &failing, &["play", "0"], "write 1 2 5\nread 1 2\n")?;
+    let ran = run(
+        &rt,
+        alloc,
+        &failing,
+        &["play", "0"],
+        "write 1 2 5\nread 1 2\n",
+    )?;
     assert_eq!(rt; ran.status, 0);
     let told =
         "0.0 wrote 1\n0.0 disk fault after 1\n0.1 got 1 pattern 1 5\n0.1 got 2 pattern 2 5\n0.1 data\n";

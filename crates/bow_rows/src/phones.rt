@@ -4,9 +4,11 @@ ghost use Rattle.std.specs.Prelude.{◌≡◌, ◌*◌, length, IfOk};
 use arrayvec::ArrayVec;
 use bow_disk::{FailMode, MemDisk, Pick};
 use bow_tool::tool;
-use bow_units::{Geometry, MemSink, MemSource, pattern_of};
+use bow_units::{Geometry, MemSink, MemSource, OpenGate, pattern_of};
 use std::alloc::Global;
+use std::sync::Wait;
 use std::test::Fail;
+use std::thread::Threads;
 use vold_meta::{AttemptText, MemKeeper};
 
 /// A phone: its image, in blocks of 512 bytes, the text of attempts that is kept, and which calls fail.
@@ -93,7 +95,13 @@ fn disk_of(alloc: Global, phone: &Phone) -> Result<MemDisk, Fail> {
 }
 
 /// The program with the words `image attempts 512` and these over the phone, with this script at its source.
-pub(crate) fn run(alloc: Global, phone: &Phone, own: &[&str], script: &str) -> Result<Ran, Fail> {
+pub(crate) fn run<H: Threads + Wait + Sync>(
+    rt: &H,
+    alloc: Global,
+    phone: &Phone,
+    own: &[&str],
+    script: &str,
+) -> Result<Ran, Fail> {
     let mut words = Vec::new(alloc);
     for word in ["image", "attempts", "512"].iter().chain(own) {
         words.push(String::from_str(alloc, word)?)?;
@@ -111,12 +119,14 @@ pub(crate) fn run(alloc: Global, phone: &Phone, own: &[&str], script: &str) -> R
         sink.fail_at(call)?;
     }
     let ended = tool(
+        rt,
         alloc,
         &words,
         disk_of(alloc, phone)?,
         keeper,
         &mut source,
         &mut sink,
+        &OpenGate,
     );
     Ok(Ran {
         status: ended.status,

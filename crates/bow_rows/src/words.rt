@@ -22,6 +22,8 @@ fn words_ask_for_commands(rt: HostRuntime) -> Result<(), Fail> {
         ),
         ("i|a|512|play|--|5", Command::Play(5)),
         ("i|a|512|play|5|--", Command::Play(5)),
+        ("i|a|512|run|1", Command::Run(1)),
+        ("i|a|512|run|8", Command::Run(8)),
         ("i|a|1024|restore", Command::Restore(None)),
         ("i|a|512|restore|--limit|3", Command::Restore(Some(3))),
         (
@@ -76,7 +78,9 @@ fn other_words_ask_for_nothing(rt: HostRuntime) -> Result<(), Fail> {
         "i|a|512|start|2147483647",
         "i|a|512|abort|--retry|--retry",
         "i|a|512|abort|--retry=true",
-        "i|a|512|run|2",
+        "i|a|512|run|0",
+        "i|a|512|run|9",
+        "i|a|512|run",
         "i|a|512|drill|7",
     ] {
         assert_eq!(rt; asked(rt.alloc(), line)?, Err(WordsFault::BadWords));

@@ -2,5 +2,7 @@ mod Booting
 mod Checking
 mod Imaging
 mod Playing
+mod Ranges
+mod Running
 mod Telling
 mod Transfers

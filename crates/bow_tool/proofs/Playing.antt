@@ -11,7 +11,8 @@ use Rattle.bow_play.specs.declared.faults.PlayFault.TheVariants as plays
 use Rattle.bow_tool.specs.declared.refusals.Refusal.{Refusal}
 use Rattle.bow_tool.specs.Refusals.{status_of}
 use Rattle.bow_tool.specs.Outside.{Call}
-use Rattle.bow_tool.specs.Play.{PlayInOrder, PlayNotCleared, PlayRefused, TellsScript, WasNotPlayed, refusal_for}
+use Rattle.bow_session.specs.Sessions.{Run}
+use Rattle.bow_tool.specs.Play.{PlayInOrder, RunNotCleared, RunRefused, TellsScript, WasNotPlayed, refusal_for}
 
 -- a source that tells a script gives no other text
 no_other : (left rest : Option (List ℕ)) (line : ℕ) → TellsScript left → GaveNoScript left rest line → ⊥
@@ -48,10 +49,10 @@ not_played c plays.DiskFault order none = absurd (order.disk none.cause.1.0)
 not_played c plays.NeedsRestore order none = absurd (order.plain (plain_kept (c.disks.content c.disk) (c.disks.content c.disk_after) order.content order.told none.kept.image none.cause.1.1))
 not_played c plays.NoMemory order none = refl
 
-pub play_refused : (number : ℕ) (c : Call) (refusal : Refusal) → PlayInOrder c → PlayRefused number c refusal → status_of refusal ≡ 11
-play_refused number c refusal order (inl none) = ap status_of none.1 ∙ not_played c none.0 order none.2
-play_refused number c refusal order (inr memory) = ap status_of memory.0
+pub run_refused : (c : Call) (Was : Run c.Disk → Type 0) (refusal : Refusal) → PlayInOrder c → RunRefused c Was refusal → status_of refusal ≡ 11
+run_refused c Was refusal order (inl none) = ap status_of none.1 ∙ not_played c none.0 order none.2
+run_refused c Was refusal order (inr memory) = ap status_of memory.0
 
 -- nor does the keeper fail
-pub play_clears : (number : ℕ) (c : Call) (text : List ℕ) → PlayInOrder c → PlayNotCleared number c text → ⊥
-play_clears number c text order failed = order.keeper failed.2.1.rose
+pub run_clears : (c : Call) (Was : Run c.Disk → Type 0) (text : List ℕ) → PlayInOrder c → RunNotCleared c Was text → ⊥
+run_clears c Was text order failed = order.keeper failed.2.1.rose

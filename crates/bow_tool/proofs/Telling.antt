@@ -1,5 +1,5 @@
 -- What a call tells: the answers of the parts, brought together.
-use Rattle.std.proofs.Common.{◌≡◌, ◌⊎◌, inl, inr, ℕ, List, ◌++◌, Bool, Option, None, Some, Result, Ok, Err, IfOk, IfErr, MatchResult, refl, sym, ap, ◌∙◌, subst, arith, String, Vec, true, false}
+use Rattle.std.proofs.Common.{◌≡◌, ◌⊎◌, inl, inr, ℕ, List, Bool, Option, None, Some, Result, Ok, Err, IfOk, IfErr, MatchResult, refl, sym, ap, ◌∙◌, subst, arith, String, Vec, true, false}
 use Rattle.std.specs.declared.alloc.Global.{Global}
 use Rattle.bow_units.specs.declared.sizes.Geometry.{Geometry}
 use Rattle.bow_units.specs.Sizes.{IsValid}
@@ -22,19 +22,19 @@ use Rattle.vold_commands.specs.declared.boots.Booted.{Booted}
 use Rattle.vold_commands.specs.declared.boots.BootFault.{BootFault}
 use Rattle.vold_commands.specs.declared.boots.BootFault.TheVariants as boots
 use Rattle.bow_words.specs.declared.commands.Command.{Command}
-use Rattle.bow_words.specs.declared.commands.Command.TheVariants.{Play, Restore, Check, Forward, Start, Mark, NeedsCheckpoint, NeedsRollback, Abort, Boot}
+use Rattle.bow_words.specs.declared.commands.Command.TheVariants.{Play, Run, Restore, Check, Forward, Start, Mark, NeedsCheckpoint, NeedsRollback, Abort, Boot}
 use Rattle.bow_words.specs.Words.{AskForOne, Asks}
 use Rattle.bow_tool.specs.declared.refusals.Refusal.{Refusal}
 use Rattle.bow_tool.specs.declared.refusals.Refusal.TheVariants.{BadWords, BadScript, SourceFault, DiskFault, KeeperFault, NeedsRestore, BadChain, BadHeader, Reserved, BadAttempts, NoMemory, Stopped, BadGeometry}
 use Rattle.bow_tool.specs.Refusals.{refusal_line, status_of}
 use Rattle.bow_tool.specs.Outside.{Call}
 use Rattle.bow_tool.specs.Sizes.{SizesCause}
-use Rattle.bow_tool.specs.Play.{ClearsAfter, PlayInOrder, PlayRefused, WasPlayed, transcript_of}
+use Rattle.bow_tool.specs.Play.{ClearsAfter, PlayInOrder, RunNotCleared, RunRefused, RunText, WasPlayed, WasRun, transcript_of}
 use Rattle.bow_tool.specs.Outcomes.{IsTranscriptTold}
-use Rattle.bow_session.specs.Sessions.{Run}
+use Rattle.bow_session.specs.Sessions.{Run as Session}
 use Rattle.bow_tool.specs.declared.outcomes.Outcome.{Outcome}
 use Rattle.bow_tool.specs.declared.outcomes.Outcome.TheVariants as outcome
-use Rattle.bow_tool.proofs.Playing.{play_clears, play_refused}
+use Rattle.bow_tool.proofs.Playing.{run_clears, run_refused}
 use Rattle.bow_tool.specs.Check.{CheckCause, ImageInOrder, Finds, OfImage, OnlyReads, TellsChain}
 use Rattle.bow_tool.specs.Restores.{ForwardCause, IsForwardRefusal, IsForwarded, IsRestoreRefusal, IsRestored, RestoreCause}
 use Rattle.bow_tool.specs.Attempts.{AttemptCause, AttemptsInOrder, KeeperHolds, RanStep, StartRefusal, WasAsked}
@@ -227,13 +227,14 @@ boot_ends law Stops c refusal order kept cause = elim cause.1 [
     by_answer g is (Err boots.DiskFault) did told = absurd (order.disk did.cause)
     by_answer g is (Err boots.NoMemory) did told = memory_ends Stops refusal told
 
--- a play
-play_ends : (Stops : Type 0) (number : ℕ) (c : Call) (refusal : Refusal) → PlayInOrder c → PlayRefused number c refusal → Ends Stops refusal
-play_ends Stops number c refusal order cause = inl (play_refused number c refusal order cause)
+-- a script's run
+run_ends : (Stops : Type 0) (c : Call) (Was : Session c.Disk → Type 0) (refusal : Refusal) → PlayInOrder c → RunRefused c Was refusal → Ends Stops refusal
+run_ends Stops c Was refusal order cause = inl (run_refused c Was refusal order cause)
 
 -- where nothing outside stands in the way of a command, the keeper does not fail after it
 no_fault : (command : Command) (c : Call) (text : List ℕ) → CommandInOrder command c → NotClearedText command c text → ⊥
-no_fault (Play number) c text order failed = play_clears number c text order failed
+no_fault (Play number) c text order failed = run_clears c (WasPlayed number c) text order failed
+no_fault (Run servers) c text order failed = run_clears c (WasRun c) text order failed
 no_fault (Restore limit) c text order failed = failed
 no_fault Check c text order failed = failed
 no_fault Forward c text order failed = failed
@@ -246,7 +247,8 @@ no_fault Boot c text order failed = failed
 
 -- where nothing outside stands in the way of a command, only want of memory refuses it, or its limit
 pub command_ends : FaultyIsNotSound → (command : Command) (c : Call) (refusal : Refusal) → CommandInOrder command c → CommandCause command c refusal → Ends (MayStop command) refusal
-command_ends law (Play number) c refusal order cause = play_ends (MayStop (Play number)) number c refusal order cause
+command_ends law (Play number) c refusal order cause = run_ends (MayStop (Play number)) c (WasPlayed number c) refusal order cause
+command_ends law (Run servers) c refusal order cause = run_ends (MayStop (Run servers)) c (WasRun c) refusal order cause
 command_ends law (Restore limit) c refusal order cause = restore_ends limit c refusal order cause
 command_ends law Check c refusal order cause = check_ends law (MayStop Check) c refusal order cause
 command_ends law Forward c refusal order cause = forward_ends (MayStop Forward) c refusal order cause
@@ -325,16 +327,34 @@ pub check_came : (c : Call) (r : Result (Vec ℕ Global) Refusal) (o : Outcome) 
 check_came c (Ok text) o reads told cause is = subst (IsOutcome Check c) (sym is) (reads, told)
 check_came c (Err refusal) o reads told cause is = subst (IsOutcome Check c) (sym is) (reads, cause)
 
--- what a play came to that was made
-pub play_came : {E : Type 0} (c : Call) (number : ℕ) (s : Run c.Disk) (text : Result (Vec ℕ Global) E) (cleared : Bool) (o : Outcome) → WasPlayed c number s → ClearsAfter c s cleared → IfOk text (λ t. t.items ≡ transcript_of s)
-    → MatchResult text (λ t. IsTranscriptTold t.items cleared o) (λ _. o ≡ outcome.Refused NoMemory) → IsOutcome (Play number) c o
-play_came c number s (Ok t) true (outcome.Done told) played clears is told_is = (s, played, clears, told_is ∙ is)
-play_came c number s (Ok t) false (outcome.Done told) played clears is told_is = absurd told_is
-play_came c number s (Ok t) true (outcome.NotCleared told) played clears is told_is = absurd told_is
-play_came c number s (Ok t) false (outcome.NotCleared told) played clears is told_is = (s, played, clears, told_is ∙ ap (λ x. x ++ refusal_line KeeperFault) is)
-play_came c number s (Ok t) true (outcome.Refused refusal) played clears is told_is = inr (told_is, (s, played, (true, clears)))
-play_came c number s (Ok t) false (outcome.Refused refusal) played clears is told_is = inr (told_is, (s, played, (false, clears)))
-play_came c number s (Err e) cleared o played clears is told_is = subst (IsOutcome (Play number) c) (sym told_is) (inr (refl, (s, played, (cleared, clears))))
+-- what a script's run came to
+abbrev pub RunCame : (c : Call) → (Session c.Disk → Type 0) → Outcome → Type 0
+RunCame c Was (outcome.Done text) = RunText c Was text.items
+RunCame c Was (outcome.Refused refusal) = RunRefused c Was refusal
+RunCame c Was (outcome.NotCleared text) = RunNotCleared c Was text.items
+
+pub run_came : (c : Call) (Was : Session c.Disk → Type 0) (s : Session c.Disk) (cleared : Bool) (o : Outcome) → Was s → ClearsAfter c s cleared → IsTranscriptTold (transcript_of s) cleared o → RunCame c Was o
+run_came c Was s true (outcome.Done told) was clears is = (s, was, clears, is)
+run_came c Was s false (outcome.Done told) was clears is = absurd is
+run_came c Was s true (outcome.NotCleared told) was clears is = absurd is
+run_came c Was s false (outcome.NotCleared told) was clears is = (s, was, clears, is)
+run_came c Was s cleared (outcome.Refused refusal) was clears is = inr (is, (s, was, (cleared, clears)))
+
+pub play_outcome : (number : ℕ) (c : Call) (o : Outcome) → RunCame c (WasPlayed number c) o → IsOutcome (Play number) c o
+play_outcome number c (outcome.Done text) came = came
+play_outcome number c (outcome.Refused refusal) came = came
+play_outcome number c (outcome.NotCleared text) came = came
+
+pub run_outcome : (servers : ℕ) (c : Call) (o : Outcome) → RunCame c (WasRun c) o → IsOutcome (Run servers) c o
+run_outcome servers c (outcome.Done text) came = came
+run_outcome servers c (outcome.Refused refusal) came = came
+run_outcome servers c (outcome.NotCleared text) came = came
+
+-- the transcript was told, or found no memory
+pub told_of : {E : Type 0} (spelled : List ℕ) (text : Result (Vec ℕ Global) E) (cleared : Bool) (o : Outcome) → IfOk text (λ t. t.items ≡ spelled) → MatchResult text (λ t. IsTranscriptTold t.items cleared o) (λ _. o ≡ outcome.Refused NoMemory) → IsTranscriptTold spelled cleared o
+told_of spelled (Ok t) cleared o is told = subst (λ x. IsTranscriptTold x cleared o) is told
+told_of spelled (Err e) true o is told = subst (IsTranscriptTold spelled true) (sym told) refl
+told_of spelled (Err e) false o is told = subst (IsTranscriptTold spelled false) (sym told) refl
 
 refused_of : (words : List (String Global)) (command : Command) (c : Call) (refusal : Refusal) (text : List ℕ) → Asks words command → IsRefusedWith (CommandCause command c) (NotClearedText command c) refusal text → IsRefusedWith (RefusalCause words c) (λ t. AskFor words (λ x. NotClearedText x c t)) refusal text
 refused_of words command c refusal text asks (inl told) = inl (caused told.0, told.1)

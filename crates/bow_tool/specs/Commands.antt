@@ -14,7 +14,7 @@ use Rattle.bow_restore.specs.Forwarding.{named_by}
 use Rattle.vold_commands.specs.Attempts.{marked, aborted, needs_checkpoint, needs_rollback, most_retries}
 use Rattle.bow_restore.specs.Limits.{IsLimit}
 use Rattle.bow_words.specs.declared.commands.Command.{Command}
-use Rattle.bow_words.specs.declared.commands.Command.TheVariants.{Play, Restore, Check, Forward, Start, Mark, NeedsCheckpoint, NeedsRollback, Abort, Boot}
+use Rattle.bow_words.specs.declared.commands.Command.TheVariants.{Play, Run, Restore, Check, Forward, Start, Mark, NeedsCheckpoint, NeedsRollback, Abort, Boot}
 use Rattle.bow_words.specs.Words.{Asks}
 use Rattle.bow_tool.specs.declared.outcomes.Outcome.{Outcome}
 use Rattle.bow_tool.specs.declared.outcomes.Outcome.TheVariants as outcome
@@ -22,21 +22,28 @@ use Rattle.bow_tool.specs.declared.refusals.Refusal.{Refusal}
 use Rattle.bow_tool.specs.declared.refusals.Refusal.TheVariants.{BadWords, KeeperFault, NoMemory}
 use Rattle.bow_tool.specs.Refusals.{refusal_line, status_of}
 use Rattle.bow_tool.specs.Outside.{Call, AllLeft}
-use Rattle.bow_tool.specs.Play.{PlayInOrder, PlayNotCleared, PlayRefused, PlayText}
+use Rattle.bow_tool.specs.Play.{PlayInOrder, RunNotCleared, RunRefused, RunText, WasPlayed, WasRun}
 use Rattle.bow_tool.specs.Check.{CheckText, CheckCause, ImageInOrder}
 use Rattle.bow_tool.specs.Restores.{RestoreText, RestoreCause, ForwardText, ForwardCause}
 use Rattle.bow_tool.specs.Attempts.{AttemptsInOrder, KeeperHolds, QuestionCause, QuestionText, StartRefusal, StartText, StepCause, StepText}
 use Rattle.bow_tool.specs.Boots.{BootCause, BootText}
 
--- the numbers of the command are in their ranges: a limit is at least 1, and retries are at most 2147483646
+-- the numbers of the command are in their ranges: 1 to 8 servers, a limit of at least 1, at most 2147483646 retries
 abbrev pub IsInRange : Command → Type 0
+IsInRange (Run servers) = (1 ≤ servers) × (servers ≤ 8)
 IsInRange (Restore limit) = IsLimit limit
 IsInRange (Start retries) = retries ≤ most_retries
 IsInRange command = Unit {0}
 
+-- the command needs no threads
+abbrev pub IsManaged : Command → Type 0
+IsManaged (Run servers) = ⊥
+IsManaged command = Unit {0}
+
 -- the command was done, with this text
 abbrev pub DoneText : Command → Call → List ℕ → Type 0
-DoneText (Play number) c text = PlayText number c text
+DoneText (Play number) c text = RunText c (WasPlayed number c) text
+DoneText (Run servers) c text = RunText c (WasRun c) text
 DoneText (Restore limit) c text = RestoreText limit c text
 DoneText Check c text = CheckText c text
 DoneText Forward c text = ForwardText c text
@@ -49,7 +56,8 @@ DoneText Boot c text = BootText c text
 
 -- why the command is refused
 abbrev pub CommandCause : Command → Call → Refusal → Type 0
-CommandCause (Play number) c refusal = PlayRefused number c refusal
+CommandCause (Play number) c refusal = RunRefused c (WasPlayed number c) refusal
+CommandCause (Run servers) c refusal = RunRefused c (WasRun c) refusal
 CommandCause (Restore limit) c refusal = RestoreCause limit c refusal
 CommandCause Check c refusal = CheckCause c refusal
 CommandCause Forward c refusal = ForwardCause c refusal
@@ -60,9 +68,10 @@ CommandCause NeedsRollback c refusal = QuestionCause needs_rollback c refusal
 CommandCause (Abort retry) c refusal = StepCause (aborted retry) c refusal
 CommandCause Boot c refusal = BootCause c refusal
 
--- the command was done, but the keeper failed to remove the attempts after it: so a play may end
+-- the command was done, but the keeper failed to remove the attempts after it: so a script's run may end
 abbrev pub NotClearedText : Command → Call → List ℕ → Type 0
-NotClearedText (Play number) c text = PlayNotCleared number c text
+NotClearedText (Play number) c text = RunNotCleared c (WasPlayed number c) text
+NotClearedText (Run servers) c text = RunNotCleared c (WasRun c) text
 NotClearedText command c text = ⊥
 
 -- the command came to this
@@ -88,6 +97,7 @@ pub record ForwardInOrder (c : Call) : Type 0 where
 -- nothing outside stands in the way of the command
 abbrev pub CommandInOrder : Command → Call → Type 0
 CommandInOrder (Play number) c = PlayInOrder c
+CommandInOrder (Run servers) c = PlayInOrder c
 CommandInOrder (Restore limit) c = ImageInOrder c
 CommandInOrder Check c = ImageInOrder c
 CommandInOrder Forward c = ForwardInOrder c

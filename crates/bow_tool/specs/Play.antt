@@ -1,4 +1,4 @@
--- What a play did: what it says, and why it was refused.
+-- What running a script did: what it says, and why it was refused.
 use Rattle.std.specs.Prelude.{◌≡◌, ◌⊎◌, ℕ, ◌+◌, ◌≤◌, Bool, true, false, List, [], ◌++◌, slice_index_or, Option, None, Some}
 use Rattle.std.specs.List.{sum_by}
 use Rattle.bow_units.specs.declared.sizes.Geometry.{Geometry}
@@ -18,7 +18,7 @@ use Rattle.bow_history.specs.Promises.{faults_in, held}
 use Rattle.bow_session.specs.Sessions.{Run, IsOver, plan_in, state_in}
 use Rattle.bow_play.specs.Committing.{HasCommitted}
 use Rattle.bow_play.specs.Leading.{PlayLeads}
-use Rattle.bow_play.specs.Playing.{IsPlay, PlayCause}
+use Rattle.bow_play.specs.Playing.{IsPlay, IsRunOn, PlayCause}
 use Rattle.bow_play.specs.Reading.{GaveScript}
 use Rattle.bow_play.specs.declared.faults.PlayFault.{PlayFault}
 use Rattle.bow_play.specs.declared.faults.PlayFault.TheVariants as plays
@@ -30,17 +30,17 @@ use Rattle.bow_tool.specs.Refusals.{refusal_line}
 use Rattle.bow_tool.specs.Outside.{Call, KeeperView, KeeperLeft}
 use Rattle.bow_tool.specs.Sizes.{HasSizes}
 
--- The script that the source gave was played in this session, by the draws of a number, over a device that was opened
--- on the disk. Each request is answered, and the journal is complete; the disk's faults rose by at least as many as it
--- tells. Over a disk that tells its content the journal is legal from the opening state of the image, cuts leave states
--- on its way, and the device stands for the last one; where no call of the disk failed, they are ahead for these too.
-pub record WasPlayed (c : Call) (number : ℕ) (s : Run c.Disk) : Type 0 where
+-- The script that the source gave was run to its end in this session, over a device that was opened on the disk. Each
+-- request is answered, and the journal is complete; the disk's faults rose by at least as many as it tells. Over a disk
+-- that tells its content the journal is legal from the opening state of the image, cuts leave states on its way, and
+-- the device stands for the last one; where no call of the disk failed, they are ahead for these too.
+pub record WasRun (c : Call) (s : Run c.Disk) : Type 0 where
   pub given : GaveScript (c.sources.left c.source) (c.sources.left c.source_after) s.script
   pub disk : c.disk_after ≡ s.core.disk
   pub sizes : HasSizes c.disks s.core.disk s.core.geometry
   pub over : IsOver s
   pub complete : IsComplete (plan_in s) s.journal
-  pub played : IsPlay c.disks.stated c.disks.content c.disks.moment c.disks.left_since c.disks.faults number c.disk s
+  pub ran : IsRunOn c.disks.stated c.disks.content c.disks.moment c.disks.left_since c.disks.faults c.disk s
   pub faults : held (c.disks.faults c.disk + sum_by faults_in s.journal) ≤ c.disks.faults s.core.disk
   pub plain : (k : Content) → c.disks.content c.disk ≡ Some k → IsPlain (slice_index_or k.now 0 [])
   pub leads : (k : Content) → c.disks.content c.disk ≡ Some k
@@ -48,6 +48,11 @@ pub record WasPlayed (c : Call) (number : ℕ) (s : Run c.Disk) : Type 0 where
   pub ahead : (k : Content) → c.disks.content c.disk ≡ Some k
       → (Rose (c.disks.faults c.disk) (c.disks.faults s.core.disk) → ⊥)
       → PlayLeads c.disks.content c.disks.moment c.disks.left_since (StandsAheadToo s.core.geometry) c.disk k s
+
+-- and by the draws of this number
+abbrev pub WasPlayed : ℕ → (c : Call) → Run c.Disk → Type 0
+WasPlayed number c s = WasRun c s
+    × IsPlay c.disks.stated c.disks.content c.disks.moment c.disks.left_since c.disks.faults number c.disk s
 
 -- the transcript of a session
 abbrev pub transcript_of : {D : Type 0} → Run D → List ℕ
@@ -74,13 +79,13 @@ Clears v plan journal old new false = HasCommitted plan journal × IsNotCleared 
 abbrev pub ClearsAfter : (c : Call) → Run c.Disk → Bool → Type 0
 ClearsAfter c s cleared = Clears c.keepers (plan_in s) s.journal c.keeper c.keeper_after cleared
 
--- a play that was made: its text is the transcript
-abbrev pub PlayText : ℕ → Call → List ℕ → Type 0
-PlayText number c text = (s : Run c.Disk) × WasPlayed c number s × ClearsAfter c s true × (text ≡ transcript_of s)
+-- a script that was run so: the text is the transcript
+abbrev pub RunText : (c : Call) → (Run c.Disk → Type 0) → List ℕ → Type 0
+RunText c Was text = (s : Run c.Disk) × Was s × ClearsAfter c s true × (text ≡ transcript_of s)
 
--- a play that was made, after whose commit the keeper failed: its text is the transcript and the line of that
-abbrev pub PlayNotCleared : ℕ → Call → List ℕ → Type 0
-PlayNotCleared number c text = (s : Run c.Disk) × WasPlayed c number s × ClearsAfter c s false
+-- a script that was run so, after whose commit the keeper failed: the text is the transcript and the line of that
+abbrev pub RunNotCleared : (c : Call) → (Run c.Disk → Type 0) → List ℕ → Type 0
+RunNotCleared c Was text = (s : Run c.Disk) × Was s × ClearsAfter c s false
     × (text ≡ transcript_of s ++ refusal_line KeeperFault)
 
 -- why there was no play, as a refusal
@@ -104,18 +109,18 @@ pub record WasNotPlayed (c : Call) (fault : PlayFault) : Type 0 where
   pub clock : (k : Content) → c.disks.content c.disk ≡ Some k
       → c.disks.moment c.disk_after ≤ c.disks.moment c.disk + 2
 
--- why a play that was asked for is refused: it was not made; or it was, and there is no memory for its transcript
-abbrev pub PlayRefused : ℕ → Call → Refusal → Type 0
-PlayRefused number c refusal = ((fault : PlayFault) × (refusal ≡ refusal_for fault) × WasNotPlayed c fault)
-    ⊎ ((refusal ≡ NoMemory) × ((s : Run c.Disk) × WasPlayed c number s × ((cleared : Bool) × ClearsAfter c s cleared)))
+-- why a script is not run so: no request was begun; or it was run, and there is no memory for its transcript
+abbrev pub RunRefused : (c : Call) → (Run c.Disk → Type 0) → Refusal → Type 0
+RunRefused c Was refusal = ((fault : PlayFault) × (refusal ≡ refusal_for fault) × WasNotPlayed c fault)
+    ⊎ ((refusal ≡ NoMemory) × ((s : Run c.Disk) × Was s × ((cleared : Bool) × ClearsAfter c s cleared)))
 
 -- the source tells what it has left, and that is a script
 abbrev pub TellsScript : Option (List ℕ) → Type 0
 TellsScript None = ⊥
 TellsScript (Some text) = (script : List (List (List Line))) × IsScriptText text script
 
--- Nothing outside stands in the way of a play: the source tells a script, the disk tells its content, which has no
--- magic in block 0, and states valid sizes, and no call of the source, the disk or the keeper fails.
+-- Nothing outside stands in the way of running a script: the source tells a script, the disk tells its content, which
+-- has no magic in block 0, and states valid sizes, and no call of the source, the disk or the keeper fails.
 pub record PlayInOrder (c : Call) : Type 0 where
   pub script : TellsScript (c.sources.left c.source)
   pub content : Content

@@ -1,22 +1,25 @@
 // The top call.
-ghost use Rattle.std.specs.Prelude.{◌≡◌};
+ghost use Rattle.std.specs.Prelude.{◌≡◌, ◌≤◌};
+ghost use Rattle.bow_words.specs.declared.commands.Command.TheVariants.{Run};
 ghost use Rattle.bow_tool.specs.Tellings.{refusal_of_words};
 ghost use Rattle.bow_tool.specs.Outside.{call_of, disk_view, keeper_view, source_view};
-ghost use Rattle.bow_tool.specs.Commands.{IsInRange, IsOutcome, IsOutcomePut, IsPut, IsRefusalPut, TellsCommand, TellsWords};
+ghost use Rattle.bow_tool.specs.Commands.{IsInRange, IsManaged, IsOutcome, IsOutcomePut, IsPut, IsRefusalPut, TellsCommand, TellsWords};
 
 use crate::attempts::{told_answer, told_attempts, told_start};
 use crate::boots::boot_image;
 use crate::checks::check;
 use crate::outcomes::{Outcome, outcome_of};
-use crate::plays::play_script;
+use crate::plays::{play_script, run_script};
 use crate::refusals::Refusal;
 use crate::restores::{forward_image, restore_image};
 use crate::streams::put_all;
 use bow_chain::fault_law;
 use bow_disk::Disk;
-use bow_units::{NoMemory, Sink, Source};
+use bow_units::{Gate, NoMemory, Sink, Source};
 use bow_words::{Command, WordsFault, read_words, words_law};
 use std::alloc::Global;
+use std::sync::Wait;
+use std::thread::Threads;
 use vold_commands::{abort, mark, needs_checkpoint, needs_rollback, start};
 use vold_meta::Keeper;
 
@@ -28,21 +31,33 @@ pub struct Ended<D, K> {
     pub keeper: K,
 }
 
-/// Does what the words ask for, and puts what it tells into the sink. The words are read by `read_words`, and what they
-/// ask for is done by `manage`, whose table has the other statuses.
+/// Does what the words ask for, and puts what it tells into the sink. The words are read by `read_words`. What they ask
+/// for is done by `manage`, whose table has the other statuses; but `Run` is done by threads. It does what `Play` does,
+/// with the same statuses and lines, and the steps come in the order in which the threads get to make them, in place of
+/// that of the draws. Before a lane posts a request it asks the gate until the gate lets it start: so `Run` may wait,
+/// and no other command does.
 ///
 /// | Status | What the sink has taken | Comes |
 /// |---|---|---|
 /// | 2 | `bad words` | exactly where the words ask for nothing; nothing outside was touched |
 /// | 5 | a front of what it was given | only where a call of the sink failed, or took nothing; in place of any other |
 /// | 11 | `no memory` | for want of memory, in place of any other |
-pub fn tool<D: Disk, K: Keeper, S: Source, W: Sink>(
+pub fn tool<
+    H: Threads + Wait + Sync,
+    D: Disk + Send,
+    K: Keeper,
+    S: Source,
+    W: Sink,
+    G: Gate + Sync,
+>(
+    rt: &H,
     alloc: Global,
     words: &[String],
     disk: D,
     keeper: K,
     source: &mut S,
     sink: &mut W,
+    gate: &G,
 ) -> Ended<D, K>
     ensures { let call = call_of (source_view S.left S.faults)
         (disk_view D.stated D.content D.moment D.left_since D.faults)
@@ -52,7 +67,7 @@ pub fn tool<D: Disk, K: Keeper, S: Source, W: Sink>(
 {
     words_law();
     match read_words(alloc, words) {
-        Ok(command) => manage(alloc, command, disk, keeper, source, sink),
+        Ok(command) => serve(rt, alloc, command, disk, keeper, source, sink, gate),
         Err(fault) => {
             let status = put_refusal(alloc, sink, refusal_of(fault));
             Ended {
@@ -64,7 +79,8 @@ pub fn tool<D: Disk, K: Keeper, S: Source, W: Sink>(
     }
 }
 
-/// Does what a command asks for, and puts what it tells into the sink. The sizes are those that the disk states.
+/// Does what a command asks for without threads, and puts what it tells into the sink. The sizes are those that the
+/// disk states.
 ///
 /// | Command | Asks | What the sink has taken at status 0 |
 /// |---|---|---|
@@ -102,7 +118,7 @@ pub fn tool<D: Disk, K: Keeper, S: Source, W: Sink>(
 /// A cut in a restoration or a boot leaves what might have been left before, or an image that passes on what the one at
 /// entry kept: so the checkpoint is never lost. A check leaves nothing that might not have been left before.
 ///
-/// Condition: a limit is at least 1, and a start asks for at most 2147483646 retries.
+/// Condition: the command is not `Run`, a limit is at least 1, and a start asks for at most 2147483646 retries.
 pub fn manage<D: Disk, K: Keeper, S: Source, W: Sink>(
     alloc: Global,
     command: Command,
@@ -111,7 +127,8 @@ pub fn manage<D: Disk, K: Keeper, S: Source, W: Sink>(
     source: &mut S,
     sink: &mut W,
 ) -> Ended<D, K>
-    requires { IsInRange command }
+    requires range { IsInRange command }
+    requires managed { IsManaged command }
     ensures { let call = call_of (source_view S.left S.faults)
         (disk_view D.stated D.content D.moment D.left_since D.faults)
         (keeper_view K.kept K.moment K.left_since K.faults) source.old source.new disk result.disk keeper result.keeper
@@ -119,6 +136,65 @@ pub fn manage<D: Disk, K: Keeper, S: Source, W: Sink>(
         (W.faults sink.new) result.status }
 {
     let (outcome, disk, keeper) = obey(alloc, command, disk, keeper, source);
+    fault_law();
+    let status = put_outcome(alloc, sink, outcome);
+    Ended {
+        status,
+        disk,
+        keeper,
+    }
+}
+
+// Does what a command asks for, and puts what it tells into the sink.
+fn serve<H: Threads + Wait + Sync, D: Disk + Send, K: Keeper, S: Source, W: Sink, G: Gate + Sync>(
+    rt: &H,
+    alloc: Global,
+    command: Command,
+    disk: D,
+    keeper: K,
+    source: &mut S,
+    sink: &mut W,
+    gate: &G,
+) -> Ended<D, K>
+    requires { IsInRange command }
+    ensures { let call = call_of (source_view S.left S.faults)
+        (disk_view D.stated D.content D.moment D.left_since D.faults)
+        (keeper_view K.kept K.moment K.left_since K.faults) source.old source.new disk result.disk keeper result.keeper
+        in TellsCommand command call (W.contents sink.old) (W.contents sink.new) (W.faults sink.old)
+        (W.faults sink.new) result.status }
+{
+    match command {
+        Command::Run(servers) => run_lanes(rt, alloc, servers, disk, keeper, source, sink, gate),
+        _ => manage(alloc, command, disk, keeper, source, sink),
+    }
+}
+
+// Runs a script by threads, and puts what it tells into the sink.
+fn run_lanes<
+    H: Threads + Wait + Sync,
+    D: Disk + Send,
+    K: Keeper,
+    S: Source,
+    W: Sink,
+    G: Gate + Sync,
+>(
+    rt: &H,
+    alloc: Global,
+    servers: u32,
+    disk: D,
+    keeper: K,
+    source: &mut S,
+    sink: &mut W,
+    gate: &G,
+) -> Ended<D, K>
+    requires servers { (1 ≤ servers) × (servers ≤ 8) }
+    ensures { let call = call_of (source_view S.left S.faults)
+        (disk_view D.stated D.content D.moment D.left_since D.faults)
+        (keeper_view K.kept K.moment K.left_since K.faults) source.old source.new disk result.disk keeper result.keeper
+        in TellsCommand (Run servers) call (W.contents sink.old) (W.contents sink.new) (W.faults sink.old)
+        (W.faults sink.new) result.status }
+{
+    let (outcome, disk, keeper) = run_script(rt, alloc, servers, disk, keeper, source, gate);
     fault_law();
     let status = put_outcome(alloc, sink, outcome);
     Ended {
@@ -177,7 +253,8 @@ fn obey<D: Disk, K: Keeper, S: Source>(
     mut keeper: K,
     source: &mut S,
 ) -> (Outcome, D, K)
-    requires { IsInRange command }
+    requires range { IsInRange command }
+    requires managed { IsManaged command }
     ensures { let call = call_of (source_view S.left S.faults)
         (disk_view D.stated D.content D.moment D.left_since D.faults)
         (keeper_view K.kept K.moment K.left_since K.faults) source.old source.new disk result.1 keeper result.2
@@ -185,6 +262,7 @@ fn obey<D: Disk, K: Keeper, S: Source>(
 {
     match command {
         Command::Play(number) => play_script(alloc, number, disk, keeper, source),
+        Command::Run(_) => unreachable!(),
         Command::Restore(limit) => {
             let answer = restore_image(alloc, &mut disk, limit);
             (outcome_of(answer), disk, keeper)

@@ -5,7 +5,7 @@ use Rattle.clap.specs.Words.{Text}
 use Rattle.bow_words.specs.Names.{text_of}
 use Rattle.bow_words.specs.Words.{name_of}
 use Rattle.bow_words.specs.declared.names.Name.{Name}
-use Rattle.bow_words.specs.declared.names.Name.TheVariants.{Play, Restore, Check, Forward, Start, Mark, NeedsCheckpoint, NeedsRollback, Abort, Boot}
+use Rattle.bow_words.specs.declared.names.Name.TheVariants.{Play, Run, Restore, Check, Forward, Start, Mark, NeedsCheckpoint, NeedsRollback, Abort, Boot}
 use Rattle.bow_words.specs.declared.commands.Command.{Command}
 use Rattle.bow_words.specs.declared.commands.Command.TheVariants as command
 
@@ -13,15 +13,17 @@ use Rattle.bow_words.specs.declared.commands.Command.TheVariants as command
 abbrev told_by : ℕ → Name
 told_by n =
     if n == 100 * 112 + 4 then Play else (if n == 100 * 114 + 7 then Restore else (if n == 100 * 99 + 5 then Check
+    else (if n == 100 * 114 + 3 then Run
     else (if n == 100 * 102 + 7 then Forward else (if n == 100 * 115 + 5 then Start else (if n == 100 * 109 + 4 then Mark
     else (if n == 100 * 110 + 16 then NeedsCheckpoint else (if n == 100 * 110 + 14 then NeedsRollback
-    else (if n == 100 * 97 + 5 then Abort else Boot))))))))
+    else (if n == 100 * 97 + 5 then Abort else Boot)))))))))
 
 abbrev number_of : Text → ℕ
 number_of word = 100 * get_or word 0 0 + length word
 
 told : (name : Name) → told_by (number_of (text_of name)) ≡ name
 told Play = refl
+told Run = refl
 told Restore = refl
 told Check = refl
 told Forward = refl
@@ -39,6 +41,7 @@ same_name a b is = sym (told a) ∙ ap (λ word. told_by (number_of word)) is �
 -- the name of a command
 abbrev pub kind_of : Command → Name
 kind_of (command.Play n) = Play
+kind_of (command.Run n) = Run
 kind_of (command.Restore limit) = Restore
 kind_of command.Check = Check
 kind_of command.Forward = Forward
@@ -52,6 +55,7 @@ kind_of command.Boot = Boot
 -- the commands of a name
 abbrev pub IsNamed : Name → Command → Type 0
 IsNamed Play c = (n : ℕ) × (c ≡ command.Play n)
+IsNamed Run c = (n : ℕ) × (c ≡ command.Run n)
 IsNamed Restore c = (limit : Option ℕ) × (c ≡ command.Restore limit)
 IsNamed Check c = c ≡ command.Check
 IsNamed Forward c = c ≡ command.Forward
@@ -64,6 +68,7 @@ IsNamed Boot c = c ≡ command.Boot
 
 pub spelled : (c : Command) → name_of c ≡ text_of (kind_of c)
 spelled (command.Play n) = refl
+spelled (command.Run n) = refl
 spelled (command.Restore limit) = refl
 spelled command.Check = refl
 spelled command.Forward = refl
@@ -76,6 +81,7 @@ spelled command.Boot = refl
 
 pub of_kind : (c : Command) → IsNamed (kind_of c) c
 of_kind (command.Play n) = (n, refl)
+of_kind (command.Run n) = (n, refl)
 of_kind (command.Restore limit) = (limit, refl)
 of_kind command.Check = refl
 of_kind command.Forward = refl

@@ -9,8 +9,8 @@ use Rattle.std.proofs.lemmas.Bool.{cases_eq}
 use Rattle.bow_units.specs.Numbers.{value_of}
 use Rattle.clap.specs.Words.{Text}
 use Rattle.clap.proofs.OnLiterals.{clap_on_literals}
-use Rattle.bow_words.specs.Words.{AreLimit, AreNumber, AreRetry, IsBlockWord, OwnWords, Takes, limit_app, none_app, number_app, word_at}
-use Rattle.bow_words.specs.Plain.{IsInRange, PlainWordsAsk, own_words}
+use Rattle.bow_words.specs.Words.{AreLimit, AreNumber, AreRetry, IsBlockWord, OwnWords, Takes, limit_app, none_app, number_app, texts_of, word_at}
+use Rattle.bow_words.specs.Plain.{AskInRange, IsInRange, PlainWordsAsk, own_words}
 use Rattle.bow_words.specs.declared.commands.Command.{Command}
 use Rattle.bow_words.specs.declared.commands.Command.TheVariants as command
 
@@ -107,6 +107,7 @@ limit_words k low high =
 
 own_words_ask : (c : Command) → IsInRange c → OwnWords (own_words c) c
 own_words_ask (command.Play n) range = number_words 0 (2 ^ 64 - 1) n (omega arith) range (omega arith)
+own_words_ask (command.Run n) range = number_words 1 8 n range.0 range.1 (omega arith)
 own_words_ask (command.Restore None) range = no_limit
 own_words_ask (command.Restore (Some k)) range = limit_words k range.0 range.1
 own_words_ask command.Check range = none_taken
@@ -134,3 +135,24 @@ plain_words_ask (i ∷ j ∷ k ∷ word ∷ own) image attempts block c size ran
     let at_block = same_lists (same_lists (same_lists is).1).1 in
     let at_name = same_lists at_block.1 in
     (subst IsBlockWord (sym at_block.0) size, at_name.0, subst (λ words. OwnWords words c) (sym at_name.1) (own_words_ask c range))
+
+own_in_range : (own : List Text) (c : Command) → OwnWords own c → IsInRange c
+own_in_range own (command.Play n) asks = asks.1.1
+own_in_range own (command.Run n) asks = (asks.1.0, asks.1.1)
+own_in_range own (command.Restore None) asks = tt
+own_in_range own (command.Restore (Some k)) asks = (asks.1.0, asks.1.1)
+own_in_range own command.Check asks = tt
+own_in_range own command.Forward asks = tt
+own_in_range own (command.Start n) asks = asks.1.1
+own_in_range own command.Mark asks = tt
+own_in_range own command.NeedsCheckpoint asks = tt
+own_in_range own command.NeedsRollback asks = tt
+own_in_range own (command.Abort retry) asks = tt
+own_in_range own command.Boot asks = tt
+
+pub ask_in_range : AskInRange
+ask_in_range [] c asks = absurd asks
+ask_in_range (i ∷ []) c asks = absurd asks
+ask_in_range (i ∷ j ∷ []) c asks = absurd asks
+ask_in_range (i ∷ j ∷ k ∷ []) c asks = absurd asks
+ask_in_range (i ∷ j ∷ k ∷ word ∷ own) c asks = own_in_range (texts_of own) c asks.2

@@ -1,11 +1,12 @@
 -- The names of the commands, as words.
 use Rattle.std.specs.Prelude.{List, ℕ, codes}
 use Rattle.bow_words.specs.declared.names.Name.{Name}
-use Rattle.bow_words.specs.declared.names.Name.TheVariants.{Play, Restore, Check, Forward, Start, Mark, NeedsCheckpoint, NeedsRollback, Abort, Boot}
+use Rattle.bow_words.specs.declared.names.Name.TheVariants.{Play, Run, Restore, Check, Forward, Start, Mark, NeedsCheckpoint, NeedsRollback, Abort, Boot}
 
 -- the word that is a name
 abbrev pub text_of : Name → List ℕ
 text_of Play = codes "play"
+text_of Run = codes "run"
 text_of Restore = codes "restore"
 text_of Check = codes "check"
 text_of Forward = codes "forward"

@@ -75,6 +75,7 @@ AreRetry words retry = Takes retry_app words × (word_at retry_app (codes "retry
 -- a command's name
 abbrev pub name_of : Command → Text
 name_of (command.Play n) = codes "play"
+name_of (command.Run n) = codes "run"
 name_of (command.Restore limit) = codes "restore"
 name_of command.Check = codes "check"
 name_of command.Forward = codes "forward"
@@ -88,6 +89,7 @@ name_of command.Boot = codes "boot"
 -- a command's own words
 abbrev pub OwnWords : List Text → Command → Type 0
 OwnWords own (command.Play n) = AreNumber 0 (2 ^ 64 - 1) own n
+OwnWords own (command.Run n) = AreNumber 1 8 own n
 OwnWords own (command.Restore limit) = AreLimit own limit
 OwnWords own (command.Start n) = AreNumber 0 (2 ^ 31 - 2) own n
 OwnWords own (command.Abort retry) = AreRetry own retry

@@ -14,6 +14,8 @@ use std::alloc::Global;
 pub enum Command {
     /// Play a script on one thread, by the schedule of this number.
     Play(u64),
+    /// Play a script by threads, with so many that serve its lanes, from 1 to 8.
+    Run(u32),
     /// Bring the checkpoint back, or stop after so many writes, at least one.
     Restore(Option<u32>),
     /// Tell whether the chain of logs of the image is sound.
@@ -41,6 +43,7 @@ pub enum Command {
 /// | COMMAND | Own words |
 /// |---|---|
 /// | `play` | a number below 2^64 |
+/// | `run` | a number from 1 to 8 |
 /// | `restore` | none, or `--limit K` with K from 1 to 4294967295 |
 /// | `start` | a number from 0 to 2147483646 |
 /// | `abort` | none, or `--retry` |
@@ -72,6 +75,7 @@ fn read_own(alloc: Global, name: Name, own: &[String]) -> Result<Command, WordsF
 {
     match name {
         Name::Play => Ok(Command::Play(read_number_in(alloc, own, 0, 0xffff_ffff_ffff_ffff)?)),
+        Name::Run => Ok(Command::Run(read_number_in(alloc, own, 1, 8)? as u32)),
         Name::Restore => Ok(Command::Restore(read_limit(alloc, own)?)),
         Name::Start => Ok(Command::Start(read_number_in(alloc, own, 0, 2_147_483_646)? as u32)),
         Name::Abort => Ok(Command::Abort(read_retry(alloc, own)?)),

@@ -7,6 +7,7 @@ ghost use Rattle.bow_words.specs.declared.names.Name.{Name};
 #[derive(Clone, Copy, Debug, PartialEq, Eq)]
 pub(crate) enum Name {
     Play,
+    Run,
     Restore,
     Check,
     Forward,
@@ -25,6 +26,7 @@ pub(crate) fn read_name(word: &str) -> Option<Name>
 {
     match word {
         "play" => Some(Name::Play),
+        "run" => Some(Name::Run),
         "restore" => Some(Name::Restore),
         "check" => Some(Name::Check),
         "forward" => Some(Name::Forward),
