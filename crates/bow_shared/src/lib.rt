@@ -10,6 +10,3 @@ mod servers;
 mod workers;
 
 pub use runs::run;
-
-#[cfg(test)]
-mod tests;
