@@ -9,7 +9,7 @@ use Rattle.bow_disk.specs.Disk.{Content, IsCrash, IsShaped, Goes, Same, Written}
 use Rattle.bow_chain.specs.Contents.{Contents, contents_of}
 use Rattle.bow_flat.specs.Flat.{Flat}
 use Rattle.bow_guard.specs.Cuts.{candidates_of}
-use Rattle.bow_guard.specs.Standing.{StandsFor}
+use Rattle.bow_guard.specs.Standing.{StandsFor, Ahead}
 use Rattle.bow_guard.proofs.Joined.{writes_are_given, flushes_are_done, crashes_are_cuts}
 use Rattle.bow_queue.specs.declared.tickets.Ticket.{Ticket}
 use Rattle.bow_machine.specs.Requests.{Request}
@@ -27,7 +27,7 @@ use Rattle.bow_machine.proofs.Whole.{step_keeps}
 use Rattle.bow_machine.proofs.Cuts.{machine_cut}
 use Rattle.bow_core.specs.Calls.{DoesOne, Passes, calls_in, HasFault, StaysWithout, Counted}
 use Rattle.bow_core.specs.Standing.{StandsOver, StandsIn, Leads, seen, step_seen, state_after}
-use Rattle.bow_core.specs.Steps.{IsStep, done_by, unknown, task_in, call_in}
+use Rattle.bow_core.specs.Steps.{IsStep, HasFailed, FailureIsTold, done_by, unknown, task_in, call_in}
 use Rattle.bow_core.specs.Turns.{turn_of, told_of}
 use Rattle.bow_core.specs.Views.{View, IsOpened}
 use Rattle.bow_core.specs.declared.turns.Turn.{Turn}
@@ -35,7 +35,11 @@ use Rattle.bow_core.specs.declared.turns.Step.{Step as OwnStep}
 use Rattle.bow_machine.specs.Ahead.{IsLed}
 use Rattle.bow_machine.proofs.Ahead.{led_keeps}
 use Rattle.bow_machine.proofs.SoundPast.{older_logs_stay}
+use Rattle.bow_core.specs.Forward.{SoundAreAheadIn}
 use Rattle.bow_core.specs.Further.{KeepsOn, LedOver, BehindOver}
+use Rattle.bow_core.proofs.Listed.{sound_listed, listed_ahead}
+use Rattle.bow_machine.proofs.GoesForward.{sound_are_led}
+use Rattle.bow_chain.proofs.Counting.{some_inj}
 use Rattle.bow_core.proofs.Replies.{can_have}
 use Rattle.bow_core.proofs.Telling.{acts_tell}
 use Rattle.std.specs.Prelude.{◌↔◌}
@@ -76,11 +80,11 @@ module _ (g : Geometry) (c d : Content) (old : IsShaped g.block_size g.blocks c)
   does_it (Some FlushCall) (Gave v) on does = absurd does
 
 -- what a cut left since then
-since_then : (g : Geometry) (h : Flat) (calls before now : ℕ) (past since : ℕ → List (List ℕ) → Type 0) (d : Content) → Passes calls (Some d) before now past since
-    → ((image : List (List ℕ)) → IsCrash d.candidates image → StandsFor g h (contents_of image))
-    → (t : ℕ) (image : List (List ℕ)) → t ≤ before → since t image → past t image ⊎ StandsFor g h (contents_of image)
-since_then g h zero before now past since d time crash t image le left = inl (time.1 t image left)
-since_then g h (suc n) before now past since d time crash t image le left = ⊎_elim (λ old. inl old) (λ cut. inr (crash image cut)) (time.nothing_else t image le left)
+pub since_then_so : (P : List (List ℕ) → Type 0) (calls before now : ℕ) (past since : ℕ → List (List ℕ) → Type 0) (d : Content) → Passes calls (Some d) before now past since
+    → ((image : List (List ℕ)) → IsCrash d.candidates image → P image)
+    → (t : ℕ) (image : List (List ℕ)) → t ≤ before → since t image → past t image ⊎ P image
+since_then_so P zero before now past since d time crash t image le left = inl (time.1 t image left)
+since_then_so P (suc n) before now past since d time crash t image le left = ⊎_elim (λ old. inl old) (λ cut. inr (crash image cut)) (time.nothing_else t image le left)
 
 -- ----------------------------------------------------------------------------------------------------------------
 -- A turn that is ready tells something.
@@ -122,6 +126,33 @@ fault_cause requests served None Failed told before now row has is = absurd (fal
 fault_cause requests served None Succeeded told before now row has is = absurd (false≢true (sym row ∙ is))
 fault_cause requests served None (Gave v) told before now row has is = absurd (false≢true (sym row ∙ is))
 
+-- and where none is told, no call failed
+unfailed : (requests : List Request) (served : Option Ticket) (call : Option Call) (reply : Reply) (told : Told) → FaultIsTold requests served call reply told → tells_fault told ≡ false → reply ≡ Failed → call ≡ None
+unfailed requests served None reply told row quiet is = refl
+unfailed requests served (Some call) Failed told row quiet is = absurd (false≢true (sym quiet ∙ ap tells_fault row.answered))
+unfailed requests served (Some call) Succeeded told row quiet is = absurd (grind arith)
+unfailed requests served (Some call) (Gave v) told row quiet is = absurd (grind arith)
+
+-- a call failed exactly where a fault is told
+failed_told : (requests : List Request) (served : Option Ticket) (call : Option Call) (reply : Reply) (told : Told) → FaultIsTold requests served call reply told → HasFailed call reply ↔ (tells_fault told ≡ true)
+failed_told requests served None Failed told row = (λ has. absurd has, λ is. false≢true (sym row ∙ is))
+failed_told requests served None Succeeded told row = (λ has. absurd has, λ is. false≢true (sym row ∙ is))
+failed_told requests served None (Gave v) told row = (λ has. absurd has, λ is. false≢true (sym row ∙ is))
+failed_told requests served (Some call) Failed told row = (λ has. ap tells_fault row.answered, λ is. tt)
+failed_told requests served (Some call) Succeeded told row = (λ has. absurd has, λ is. false≢true (sym row ∙ is))
+failed_told requests served (Some call) (Gave v) told row = (λ has. absurd has, λ is. false≢true (sym row ∙ is))
+
+-- so of a step that was made so
+pub failure_told : {D : Type 0} (stated : D → Option Geometry) (content : D → Option Content) (moment : D → ℕ) (left : D → ℕ → List (List ℕ) → Type 0) (faults : D → ℕ)
+    (old : View D) (turn : Turn) (tells_so : OwnStep) (new : View D) → IsOpened stated old → FailureIsTold stated content moment left faults old turn tells_so new
+failure_told stated content moment left faults old turn tells_so new opened made =
+    let g = old.geometry in
+    let m = old.memory in
+    let task = task_in old turn in
+    let row = faults_are_told g m (turn_of turn) made.reply unknown opened.sound (can_have g _ made.reply made.made.may) in
+    let both = failed_told m.requests (served_by task) (call_of g m task) made.reply (done_by g m task made.reply).told row in
+    (λ has. ap tells_fault made.told ∙ both.0 has, λ is. both.1 (sym (ap tells_fault made.told) ∙ is))
+
 -- in Arming there is a log
 arming_log : (g : Geometry) (table : List Kind) (clean : Bool) (trimmed picked : ℕ) (log : Option Generation) → LogIsHeld g table clean trimmed picked Arming log → (l : Generation) × (log ≡ Some l)
 arming_log g table clean trimmed picked None held = absurd held
@@ -144,6 +175,13 @@ module _ {D : Type 0} (stated : D → Option Geometry) (content : D → Option C
       let task = task_in old turn in
       let row = faults_are_told g m (turn_of turn) step.reply unknown opened.sound (can_have g _ step.reply step.made.may) in
       fault_cause m.requests (served_by task) (call_of g m task) step.reply (done_by g m task step.reply).told (faults old.disk) (faults new.disk) row step.made.cause (ap tells_fault (sym step.told) ∙ is)
+
+  -- where no fault is told, no call failed
+  pub no_failure : tells_fault (told_of tells_so) ≡ false → step.reply ≡ Failed → call_of g m (task_in old turn) ≡ None
+  no_failure quiet =
+      let task = task_in old turn in
+      let row = faults_are_told g m (turn_of turn) step.reply unknown opened.sound (can_have g _ step.reply step.made.may) in
+      unfailed m.requests (served_by task) (call_of g m task) step.reply (done_by g m task step.reply).told row (ap tells_fault (sym step.told) ∙ quiet)
 
   pub unready_idle : is_ready g m (turn_of turn) ≡ false → told_of tells_so ≡ Idle
   unready_idle unready =
@@ -222,22 +260,16 @@ module _ {D : Type 0} (stated : D → Option Geometry) (content : D → Option C
               told = step.told ∙ same.1;
               allowed = both.0;
               stands = subst (λ o. StandsOver new.geometry new.memory o after) (sym at) (subst (λ h. StandsOver h new.memory (Some d) after) (sym step.geometry) standing);
-              cuts = since_then g after (calls_in (call_in old turn)) (moment old.disk) (moment new.disk) (left old.disk) (left new.disk) d
+              cuts = since_then_so (λ image. StandsFor g after (contents_of image)) (calls_in (call_in old turn)) (moment old.disk) (moment new.disk) (left old.disk) (left new.disk) d
                   (subst (λ o. Passes (calls_in (call_in old turn)) o (moment old.disk) (moment new.disk) (left old.disk) (left new.disk)) at step.made.time)
                   (λ image crash. machine_cut g new.memory (contents_of d.now) (candidates_of d.candidates) after (contents_of image) standing (((crashes_are_cuts g g.block_size d image (shaped new.disk d at g sizes)).0 crash).1));
             }
 
     -- what the step keeps for readers and for devices given up forward
-    pub step_keeps_on : (f : Flat) → StandsIn content old f → KeepsOn content faults old turn tells_so new f
+    pub step_keeps_on : (f : Flat) → StandsIn content old f → KeepsOn content old turn tells_so new f
     step_keeps_on f stands = go (content old.disk) refl (content new.disk) refl step.made.disk stands
       where
-        no_fault : (call : Option Call) (reply : Reply) → HasFault call reply (faults old.disk) (faults new.disk) → (Rose (faults old.disk) (faults new.disk) → ⊥) → reply ≡ Failed → call ≡ None
-        no_fault None reply has quiet failed = refl
-        no_fault (Some call) Failed has quiet failed = absurd (quiet has)
-        no_fault (Some call) Succeeded has quiet failed = absurd (cc failed)
-        no_fault (Some call) (Gave v) has quiet failed = absurd (cc failed)
-
-        go : (o : Option Content) → content old.disk ≡ o → (n : Option Content) → content new.disk ≡ n → Goes (DoesOne (call_in old turn) step.reply) o n → StandsOver g m o f → KeepsOn content faults old turn tells_so new f
+        go : (o : Option Content) → content old.disk ≡ o → (n : Option Content) → content new.disk ≡ n → Goes (DoesOne (call_in old turn) step.reply) o n → StandsOver g m o f → KeepsOn content old turn tells_so new f
         go None is n at goes stands = absurd stands
         go (Some c) is None at goes stands = absurd goes
         go (Some c) is (Some d) at goes stands =
@@ -253,10 +285,20 @@ module _ {D : Type 0} (stated : D → Option Geometry) (content : D → Option C
               told = step.told ∙ same.1;
               led = λ quiet led.
                   let was = subst (λ o. LedOver g m o f) is led in
-                  let now = led_keeps g m (turn_of turn) step.reply (contents_of c.now) (contents_of d.now) (candidates_of c.candidates) (candidates_of d.candidates) f stands was (no_fault (call_in old turn) step.reply step.made.cause quiet) does in
+                  let now = led_keeps g m (turn_of turn) step.reply (contents_of c.now) (contents_of d.now) (candidates_of c.candidates) (candidates_of d.candidates) f stands was (no_failure quiet) does in
                   let own = subst (λ (n : Memory). IsLed g n (contents_of d.now) (candidates_of d.candidates) (after_all g.blocks (step_of g (contents_of c.now) m (task_in old turn) step.reply).events f)) at_now now in
                   let after = subst (λ e. IsLed g new.memory (contents_of d.now) (candidates_of d.candidates) e) events own in
                   subst (λ o. LedOver new.geometry new.memory o (state_after content old turn step.reply f)) (sym at) (subst (λ h. LedOver h new.memory (Some d) (state_after content old turn step.reply f)) (sym step.geometry) after);
+              ahead = λ one quiet led sound.
+                  let was = subst (λ o. LedOver g m o one) is led in
+                  let all = sound_listed g c (shaped old.disk c is g opened.sizes) f (λ image crash. sound c is image crash) in
+                  let own = sound_are_led g m (contents_of c.now) (candidates_of c.candidates) one f was stands all in
+                  let kept = (step_keeps g m (turn_of turn) step.reply (contents_of c.now) (contents_of d.now) (candidates_of c.candidates) (candidates_of d.candidates) f stands does).1 in
+                  let now = led_keeps g m (turn_of turn) step.reply (contents_of c.now) (contents_of d.now) (candidates_of c.candidates) (candidates_of d.candidates) f stands own (no_failure quiet) does in
+                  subst (λ h. SoundAreAheadIn content (record new { geometry = h }) (state_after content old turn step.reply f)) (sym step.geometry)
+                  (λ e told image crash sound. subst (λ s. Ahead g s (contents_of image)) events
+                  (listed_ahead g d (shaped new.disk d at g step.made.sizes) (step_of g (contents_of c.now) m (task_in old turn) step.reply).memory (after_all g.blocks (step_of g (contents_of c.now) m (task_in old turn) step.reply).events f) kept now image
+                  (subst (λ (x : Content). IsCrash x.candidates image) (some_inj (sym told ∙ at)) crash)));
               older = λ log next behind phase here there stood.
                   let was = subst (λ o. BehindOver g o log behind) is stood in
                   let now = older_logs_stay g m (turn_of turn) step.reply (contents_of c.now) (contents_of d.now) (candidates_of c.candidates) (candidates_of d.candidates) f log next behind stands phase here was does (ap (λ (n : Memory). n.log) at_now ∙ there) in

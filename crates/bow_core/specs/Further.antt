@@ -1,6 +1,5 @@
 -- What a step keeps for readers of the checkpoint and for devices that are given up forward.
-use Rattle.std.specs.Prelude.{◌≡◌, ◌⊎◌, ℕ, List, ◌∷◌, Option, Some, None}
-use Rattle.bow_units.specs.Causes.{Rose}
+use Rattle.std.specs.Prelude.{◌≡◌, ◌⊎◌, false, List, ◌∷◌, Option, Some, None}
 use Rattle.bow_units.specs.declared.sizes.Geometry.{Geometry}
 use Rattle.bow_units.specs.declared.requests.Phase.TheVariants.{Checkpoint}
 use Rattle.bow_disk.specs.Disk.{Content}
@@ -13,9 +12,11 @@ use Rattle.bow_guard.specs.Cuts.{candidates_of}
 use Rattle.bow_machine.specs.Ahead.{IsLed}
 use Rattle.bow_machine.specs.Calls.{Reply}
 use Rattle.bow_machine.specs.Memory.{Memory}
+use Rattle.bow_machine.specs.MemoryLaws.{tells_fault}
 use Rattle.bow_machine.specs.Tasks.{spelling}
 use Rattle.bow_core.specs.declared.turns.Turn.{Turn}
 use Rattle.bow_core.specs.declared.turns.Step.{Step as OwnStep}
+use Rattle.bow_core.specs.Forward.{SoundAreAheadIn}
 use Rattle.bow_core.specs.Standing.{state_after, step_seen}
 use Rattle.bow_core.specs.Turns.{told_of}
 use Rattle.bow_core.specs.Views.{View}
@@ -51,16 +52,19 @@ pub record IsReadable {D : Type 0} (content : D → Option Content) (v : View D)
   pub older : List Generation
   pub behind : BehindIn content v log older
 
--- A turn's step, by a reply, over a device that stood for the state. Where the disk's count of faults did not rise, a
--- device that was led for it is led for the state after. In Checkpoint the older logs stay, and the log before may
--- come to them.
-pub record KeepsOn {D : Type 0} (content : D → Option Content) (faults : D → ℕ) (old : View D) (turn : Turn)
-    (tells : OwnStep) (new : View D) (f : Flat) : Type 0 where
+-- A turn's step, by a reply, over a device that stood for the state. Where no fault is told, a device that was led for
+-- it is led for the state after; and one that was led for any state, as it is where no call of it has failed, and of
+-- which each sound crash image was ahead, has that so for the state after too. In Checkpoint the older logs stay, and
+-- the log before may come to them.
+pub record KeepsOn {D : Type 0} (content : D → Option Content) (old : View D) (turn : Turn) (tells : OwnStep)
+    (new : View D) (f : Flat) : Type 0 where
   pub reply : Reply
   pub memory : new.memory ≡ (step_seen content old turn reply).memory
   pub told : told_of tells ≡ (step_seen content old turn reply).told
-  pub led : (Rose (faults old.disk) (faults new.disk) → ⊥) → LedIn content old f
+  pub led : tells_fault (told_of tells) ≡ false → LedIn content old f
       → LedIn content new (state_after content old turn reply f)
+  pub ahead : (one : Flat) → tells_fault (told_of tells) ≡ false → LedIn content old one
+      → SoundAreAheadIn content old f → SoundAreAheadIn content new (state_after content old turn reply f)
   pub older : (log next : Generation) (behind : List Generation) → old.memory.phase ≡ Checkpoint
       → old.memory.log ≡ Some log → new.memory.log ≡ Some next → BehindIn content old log behind
       → BehindIn content new next behind ⊎ BehindIn content new next (log ∷ behind)

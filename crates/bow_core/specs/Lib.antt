@@ -11,6 +11,7 @@ pub mod Batches
 pub mod Orders
 pub mod Standing
 pub mod Openings
+pub mod Forward
 pub mod Further
 pub mod Room
 pub mod Ties

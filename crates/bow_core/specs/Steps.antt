@@ -1,11 +1,12 @@
 -- One step of the device: one step of the machine.
-use Rattle.std.specs.Prelude.{◌≡◌, ℕ, List, [], Option, Some}
+use Rattle.std.specs.Prelude.{◌≡◌, ◌↔◌, ℕ, true, List, [], Option, Some}
 use Rattle.bow_units.specs.declared.sizes.Geometry.{Geometry}
 use Rattle.bow_disk.specs.Disk.{Content}
 use Rattle.bow_chain.specs.Contents.{Contents}
 use Rattle.bow_machine.specs.Memory.{Memory}
 use Rattle.bow_machine.specs.MemoryIsSound.{MemoryIsSound}
-use Rattle.bow_machine.specs.Calls.{Call, Reply}
+use Rattle.bow_machine.specs.Calls.{Call, Reply, Failed}
+use Rattle.bow_machine.specs.MemoryLaws.{tells_fault}
 use Rattle.bow_machine.specs.Tasks.{Task, task_of}
 use Rattle.bow_machine.specs.Steps.{Step, call_of, step_of}
 use Rattle.bow_core.specs.declared.turns.Turn.{Turn}
@@ -73,3 +74,14 @@ pub record IsStep {D : Type 0} (stated : D → Option Geometry) (content : D →
   pub geometry : new.geometry ≡ old.geometry
   pub places : new.places ≡ old.places
   pub admitted : new.admitted ≡ old.admitted
+
+-- a call was made, and it failed
+abbrev pub HasFailed : Option Call → Reply → Type 0
+HasFailed (Some call) Failed = Unit {0}
+HasFailed call reply = ⊥
+
+-- Whatever the one call of the step replied: it failed exactly where the step tells of a fault.
+abbrev pub FailureIsTold : {D : Type 0} → (D → Option Geometry) → (D → Option Content) → (D → ℕ)
+    → (D → ℕ → List (List ℕ) → Type 0) → (D → ℕ) → View D → Turn → OwnStep → View D → Type 0
+FailureIsTold stated content moment left faults old turn tells new = (made : IsStep stated content moment left faults
+    old turn tells new) → HasFailed (call_in old turn) made.reply ↔ (tells_fault (told_of tells) ≡ true)

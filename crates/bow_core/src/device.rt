@@ -4,17 +4,19 @@ ghost use Rattle.std.specs.Prelude.{OnErr, OnOk, IsSome, List, Some, true, false
 ghost use Rattle.std.specs.Prelude.{slice_index_or};
 ghost use Rattle.std.specs.Option.{option_map};
 ghost use Rattle.bow_core.specs.Calls.{read_reply, Counted};
+ghost use Rattle.bow_core.specs.Forward.{IsForward, StaysForward};
 ghost use Rattle.bow_core.specs.Further.{BehindIn, IsReadable, KeepsOn, LedIn};
 ghost use Rattle.bow_core.specs.Openings.{KeepsImage, LeftBy, OpenCause};
 ghost use Rattle.bow_core.specs.Ports.{Makes};
 ghost use Rattle.bow_core.specs.Room.{FindsNoSpace, IsExactRoom};
 ghost use Rattle.bow_core.specs.Standing.{StandsIn, Leads};
-ghost use Rattle.bow_core.specs.Steps.{Does, IsInOrder, IsStep};
+ghost use Rattle.bow_core.specs.Steps.{Does, FailureIsTold, IsInOrder, IsStep};
 ghost use Rattle.bow_core.specs.Ties.{IsTied};
 ghost use Rattle.bow_core.specs.Turns.{turn_of, told_of};
 ghost use Rattle.bow_core.specs.Views.{IsOpened};
 ghost use Rattle.bow_disk.specs.Disk.{Content};
-ghost use Rattle.bow_flat.specs.Flat.{Flat, opening};
+ghost use Rattle.bow_flat.specs.Flat.Event.{Flushes};
+ghost use Rattle.bow_flat.specs.Flat.{Flat, after, opening};
 ghost use Rattle.bow_flat.specs.Valid.{HasCheckpoint};
 ghost use Rattle.bow_log.specs.Generations.{fields_of, Generation};
 ghost use Rattle.bow_machine.specs.Calls.{ReadCall};
@@ -25,11 +27,13 @@ ghost use Rattle.bow_machine.specs.Ready.{is_ready};
 ghost use Rattle.bow_machine.specs.Requests.{Request};
 ghost use Rattle.bow_machine.specs.Shown.{status_of, IsShown};
 ghost use Rattle.bow_machine.specs.Steps.{Answered, Idle};
-ghost use Rattle.bow_machine.specs.Tasks.{task_of};
+ghost use Rattle.bow_machine.specs.Tasks.{Command, Map, task_of};
+ghost use Rattle.bow_queue.specs.declared.tickets.Ticket.{Ticket};
 ghost use Rattle.bow_units.specs.Causes.{Rose};
 ghost use Rattle.bow_units.specs.Magics.{IsPlain};
 ghost use Rattle.bow_units.specs.Sizes.{IsValid};
-ghost use Rattle.bow_units.specs.declared.requests.Outcome.TheVariants.{NoSpace};
+ghost use Rattle.bow_units.specs.declared.requests.Op.TheVariants.{Flush};
+ghost use Rattle.bow_units.specs.declared.requests.Outcome.TheVariants.{Done, NoSpace};
 ghost use Rattle.bow_units.specs.declared.requests.Phase.TheVariants.{Checkpoint};
 
 use crate::Ticket;
@@ -258,6 +262,7 @@ impl<D: Disk, R: Ranges> Core<D, R> {
         ensures opened { IsOpened D.stated self.new }
         ensures stands { (f : Flat) → StandsIn D.content self.old f → StandsIn D.content self.new f }
         ensures led { (f : Flat) → LedIn D.content self.old f → LedIn D.content self.new f }
+        ensures forward { (f : Flat) → IsForward D.content self.old f → IsForward D.content self.new f }
     {
         self.state.admit(op)
     }
@@ -274,12 +279,15 @@ impl<D: Disk, R: Ranges> Core<D, R> {
     /// where the disk's count of faults rose in this step, and `NoSpace` exactly where the turn finds none: where no
     /// block is free for the worker's head, or no two for a prepare. The step leads from each flat state for which the
     /// device stood to one for which it stands, by events that may be, and what a cut leaves meanwhile was left before
-    /// or stands for it.
+    /// or stands for it. Where a call of the step failed, a fault is told. From a flush in `Checkpoint` that is answered
+    /// done, before which no call has failed, to the end of a commit, with no steps but those of the commands between,
+    /// each crash image may be given up forward, also where the last call failed.
     pub fn step(&mut self, turn: Turn) -> Step
         ensures step { IsStep D.stated D.content D.moment D.left_since D.faults self.old turn result self.new }
         ensures idle { (told_of result ≡ Idle) ↔ (is_ready self.old.geometry self.old.memory (turn_of turn) ≡ false) }
         ensures still { told_of result ≡ Idle → self.new ≡ self.old }
         ensures cause { tells_fault (told_of result) ≡ true → Rose (D.faults self.old.disk) (D.faults self.new.disk) }
+        ensures failed { FailureIsTold D.stated D.content D.moment D.left_since D.faults self.old turn result self.new }
         ensures faults { D.faults self.old.disk ≤ D.faults self.new.disk }
         ensures space { (r : Request) → (told_of result ≡ Answered r.ticket r.op (NoSpace r.done)) ↔ FindsNoSpace
             self.old.geometry self.old.memory turn r }
@@ -288,8 +296,13 @@ impl<D: Disk, R: Ranges> Core<D, R> {
         ensures opened { IsOpened D.stated self.new }
         ensures leads { (f : Flat) → StandsIn D.content self.old f → Leads D.content D.moment D.left_since self.old
             turn result self.new f }
-        ensures further { (f : Flat) → StandsIn D.content self.old f → KeepsOn D.content D.faults self.old turn result
-            self.new f }
+        ensures further { (f : Flat) → StandsIn D.content self.old f → KeepsOn D.content self.old turn result self.new
+            f }
+        ensures flushed { (f : Flat) (asked t : Ticket) → StandsIn D.content self.old f → LedIn D.content self.old f →
+            self.old.memory.phase ≡ Checkpoint → turn_of turn ≡ Map asked → told_of result ≡ Answered t Flush Done →
+            IsForward D.content self.new (after self.old.geometry.blocks Flushes f) }
+        ensures forward { (f : Flat) → IsForward D.content self.old f → turn_of turn ≡ Command → StaysForward D.content
+            D.moment D.left_since self.old result self.new f }
     {
         step_turn(&mut self.port, &mut self.state, turn)
     }

@@ -6,7 +6,7 @@ use Rattle.bow_units.specs.declared.requests.Phase.TheVariants.{Trim, Arming, Ch
 use Rattle.bow_flat.specs.Flat.{Flat, May}
 use Rattle.bow_log.specs.Generations.{Generation}
 use Rattle.bow_chain.specs.Contents.{Contents, with_block}
-use Rattle.bow_chain.specs.Sound.{log_in}
+use Rattle.bow_chain.specs.Sound.{log_in, IsSound}
 use Rattle.bow_chain.specs.Kept.{IsPlain, Keeps}
 
 -- block 0 begins with no magic, and each block of the device of which something is known holds one of these contents
@@ -41,3 +41,12 @@ forwarded image log = with_block image 0 (image log.current)
 -- where block 0 spells a log, the image stands as after a commit once what its current block 0 holds is put there
 abbrev pub Ahead : Geometry → Flat → Contents → Type 0
 Ahead g f image = (log : Generation) → log_in g (image 0) ≡ Some log → StandsIn g Committed f (forwarded image log)
+
+-- the image is sound: block 0 spells a log, and older ones stand behind it
+abbrev pub IsSoundImage : Geometry → Contents → Type 0
+IsSoundImage g image = (log : Generation) × (older : List Generation) × IsSound g image log older
+
+-- The image may be given up forward: block 0 begins with no magic and each known block holds one of its current
+-- contents; or the image is sound and ahead.
+abbrev pub Forwardable : Geometry → Flat → Contents → Type 0
+Forwardable g f image = Shows g f.current image ⊎ (IsSoundImage g image × Ahead g f image)

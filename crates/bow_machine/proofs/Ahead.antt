@@ -17,7 +17,7 @@ use Rattle.bow_flat.specs.Flat.{Flat, May, is_any}
 use Rattle.bow_flat.specs.Valid.{HasCheckpoint}
 use Rattle.bow_guard.specs.Cuts.{Candidates, IsCut}
 use Rattle.bow_guard.specs.Phases.{IsArming, IsDeciding}
-use Rattle.bow_guard.specs.Standing.{forwarded}
+use Rattle.bow_guard.specs.Standing.{Ahead, forwarded}
 use Rattle.bow_guard.proofs.Device.{one_of}
 use Rattle.bow_guard.proofs.Phases.{may_within}
 use Rattle.bow_guard.proofs.PhaseActs.{ahead_cut}
@@ -27,8 +27,9 @@ use Rattle.bow_machine.specs.Calls.{Failed, DoesIt}
 use Rattle.bow_machine.specs.Tasks.{Turn, Map, Worker, Command, task_of}
 use Rattle.bow_machine.specs.Steps.{call_of, step_of}
 use Rattle.bow_machine.specs.Laws.{after_all}
+use Rattle.bow_machine.specs.Standing.{IsStanding}
 use Rattle.bow_machine.proofs.Held.{device_of, IsHeld}
-use Rattle.bow_machine.specs.Ahead.{Shows0, IsPlace0, IsLed, IsBytes, AllAhead, OpeningIsLed, AdmitIsLed, LedKeeps, LedIsAhead, BytesAreAhead, AheadIsLed, AheadKeeps}
+use Rattle.bow_machine.specs.Ahead.{Shows0, IsPlace0, IsLed, IsBytes, OpeningIsLed, AdmitIsLed, LedKeeps, LedIsAhead, BytesAreAhead, AheadIsLed, AheadKeeps}
 use Rattle.bow_machine.proofs.Openings.{opening_held}
 use Rattle.bow_machine.proofs.Joined.{held}
 use Rattle.bow_machine.proofs.Whole.{step_holds, step_keeps}
@@ -106,6 +107,14 @@ may_saved : (c : Option (List (List ℕ))) (v w : List ℕ) → (not (is_any c) 
 may_saved None v w h = tt
 may_saved (Some cs) v w h = subst (λ c. May c v) (sym (h refl).1) (subst (Contains (w ∷ [])) (sym (h refl).0) (0, omega arith, refl))
 
+-- as what the disk holds, beyond the device
+abbrev IsBeyond : Geometry → Contents → Contents → Type 0
+IsBeyond g now image = (b : ℕ) → g.blocks ≤ b → image b ≡ now b
+
+-- whatever a cut leaves, and is so beyond the device, is ahead
+abbrev AheadBy : Geometry → Contents → Candidates → Flat → Type 0
+AheadBy g now may f = (image : Contents) → IsCut g may image → IsBeyond g now image → Ahead g f image
+
 module _ (g : Geometry) (m : Memory) (now : Contents) (may : Candidates) (one f : Flat) (l : IsLed g m now may one) (s : IsHeld g m now may f) where
   first : 0 < g.blocks
   first = omega (arith, s.memory.sizes.enough)
@@ -173,10 +182,14 @@ module _ (g : Geometry) (m : Memory) (now : Contents) (may : Candidates) (one f 
     | inr ne ↦ subst (Contains (may x)) (sym (block_other image b v x ne)) (cut x on)
   ]
 
+  -- such an image is as it was beyond the device
+  beyond : (image : Contents) (b : ℕ) (v : List ℕ) → b < g.blocks → IsBeyond g now image → IsBeyond g now (with_block image b v)
+  beyond image b v on same x off = block_other image b v x (λ e. omega (arith, e, on, off)) ∙ same x off
+
   -- in Checkpoint each candidate, with others, is left by a cut
-  module _ (is : m.phase ≡ Checkpoint) (all : AllAhead g m.phase may f) where
-    ahead : (image : Contents) (head : Generation) → IsCut g may image → log_in g (image 0) ≡ Some head → (b : ℕ) → b < g.blocks → May (f.pending b) (forwarded image head b)
-    ahead image head cut spells b on = (all image cut (inl is) head spells).each b on
+  module _ (is : m.phase ≡ Checkpoint) (all : AheadBy g now may f) where
+    ahead : (image : Contents) (head : Generation) → IsCut g may image → IsBeyond g now image → log_in g (image 0) ≡ Some head → (b : ℕ) → b < g.blocks → May (f.pending b) (forwarded image head b)
+    ahead image head cut same spells b on = (all image cut same head spells).each b on
 
     shown_0 : (v : List ℕ) (head : Generation) → Contains (may 0) v → log_in g v ≡ Some head → Shows0 may f.pending head.current
     shown_0 v head h spells w has =
@@ -185,7 +198,7 @@ module _ (g : Geometry) (m : Memory) (now : Contents) (may : Candidates) (one f 
         let apart : 0 ≢ head.current = λ z. head_not_0 g s.memory.sizes v head spells (sym z) in
         let zeroth : image 0 ≡ v = block_other at_0 head.current w 0 apart ∙ block_there now 0 v in
         subst (May (f.pending 0)) (block_there image 0 (image head.current) ∙ block_there at_0 head.current w)
-        (ahead image head (cut_with at_0 head.current w (cut_with now 0 v s.held h) has) (ap (log_in g) zeroth ∙ spells) 0 first)
+        (ahead image head (cut_with at_0 head.current w (cut_with now 0 v s.held h) has) (beyond at_0 head.current w (spelled_ok g s.memory.sizes v head spells).current_inside (beyond now 0 v first (λ x off. refl))) (ap (log_in g) zeroth ∙ spells) 0 first)
 
     in_checkpoint : IsLed g m now may f
     in_checkpoint = record {
@@ -194,7 +207,7 @@ module _ (g : Geometry) (m : Memory) (now : Contents) (may : Candidates) (one f 
           let image : Contents = with_block now b v in
           let log = log_in_checkpoint g m now may f s is in
           subst (May (f.pending b)) (block_other image 0 (image log.0.current) b (λ z. ne (sym z)) ∙ block_there now b v)
-          (ahead image log.0 (cut_with now b v s.held h) (ap (log_in g) (block_other now b v 0 ne) ∙ l.led is log.0 log.1) b on);
+          (ahead image log.0 (cut_with now b v s.held h) (beyond now b v on (λ x off. refl)) (ap (log_in g) (block_other now b v 0 ne) ∙ l.led is log.0 log.1) b on);
       heads = λ v head h begins spells. ((l.heads v head h begins spells).0, shown_0 v head h spells);
       current = λ o some. shown_0 (now 0) o (s.held 0 first) (l.led is o some);
       arming = l.arming;
@@ -202,8 +215,9 @@ module _ (g : Geometry) (m : Memory) (now : Contents) (may : Candidates) (one f 
       deciding = l.deciding;
     }
 
-pub ahead_is_led : AheadIsLed
-ahead_is_led g m now may one f l standing all = go m.phase refl
+-- only in Checkpoint it matters what is ahead
+pub ahead_so : (g : Geometry) (m : Memory) (now : Contents) (may : Candidates) (one f : Flat) → IsLed g m now may one → IsStanding g m now may f → (m.phase ≡ Checkpoint → AheadBy g now may f) → IsLed g m now may f
+ahead_so g m now may one f l standing all = go m.phase refl
   where
     s : IsHeld g m now may f
     s = held g m now may f standing
@@ -211,9 +225,12 @@ ahead_is_led g m now may one f l standing all = go m.phase refl
     go : (p : Phase) → m.phase ≡ p → IsLed g m now may f
     go Trim is = plain_led g m now may f s (inl is)
     go Arming is = in_arming g m now may one f l s is
-    go Checkpoint is = in_checkpoint g m now may one f l s is all
+    go Checkpoint is = in_checkpoint g m now may one f l s is (all is)
     go Deciding is = in_deciding g m now may one f l s is
     go Committed is = plain_led g m now may f s (inr is)
+
+pub ahead_is_led : AheadIsLed
+ahead_is_led g m now may one f l standing all = ahead_so g m now may one f l standing (λ is image cut same. all image cut (inl is))
 
 pub ahead_keeps : AheadKeeps
 ahead_keeps g m turn reply now new_now may new_may one f l s all ok does =

@@ -73,4 +73,5 @@ pub mod SoundDeeds
 pub mod Blocks
 pub mod SoundPast
 pub mod Forward
+pub mod GoesForward
 pub mod Shown

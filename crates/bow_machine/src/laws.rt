@@ -16,7 +16,9 @@ ghost use Rattle.bow_machine.specs.Told.{StepsTellSo, ActsTellSo};
 ghost use Rattle.bow_machine.specs.Deeds.{DeedsGoOn};
 ghost use Rattle.bow_machine.specs.Blocks.{BlocksReply};
 ghost use Rattle.bow_machine.specs.Past.{OlderLogsStay, ReadersFollow, ReadsBeside};
-ghost use Rattle.bow_machine.specs.Forward.{CommitHasFlushed, FlushedIsAhead};
+ghost use Rattle.bow_machine.specs.Forward.{CommitHasFlushed, FlushedIsAhead, FlushGoesForward, AdmitGoesForward};
+ghost use Rattle.bow_machine.specs.Forward.{CommandGoesForward, ForwardIsForwardable, SoundAreLed};
+ghost use Rattle.bow_machine.specs.Forward.{CommandIsForwardable};
 ghost use Rattle.bow_machine.specs.Shown.{StatusIsShown};
 ghost use Rattle.bow_machine.specs.Rows.{PreparedRow, CallsRow, NoSpaceRow, MovedData, MovedLog, BackupsRow};
 ghost use Rattle.bow_machine.specs.Rows.{BatchCalls, ReclaimedLog, CommitCalls, LinkedLog, FailedLog};
@@ -106,7 +108,9 @@ pub fn live_law()
 /// As long as no call on the disk has failed, whatever a cut leaves is ahead: once what its log's current block 0
 /// holds is put into block 0, it stands as after a commit. So a checkpoint can be given up from the image alone. It is
 /// so for each flat state for which the device stands and whatever a cut leaves is ahead. Once all was flushed, as by
-/// the first act of a commit, whatever a cut leaves stands for the state flushed and is ahead of it.
+/// the first act of a commit, whatever a cut leaves stands for the state flushed and is ahead of it. From a flush that
+/// was done in Checkpoint to the end of a commit, with no turns but those of the commands between, whatever a cut leaves
+/// can be given up forward, even where the last call failed.
 pub fn ahead_law()
     ensures opening { OpeningIsLed }
     ensures admit { AdmitIsLed }
@@ -117,6 +121,12 @@ pub fn ahead_law()
     ensures every_keeps { AheadKeeps }
     ensures commit { CommitHasFlushed }
     ensures flushed { FlushedIsAhead }
+    ensures sound { SoundAreLed }
+    ensures flush { FlushGoesForward }
+    ensures waits { AdmitGoesForward }
+    ensures commands { CommandGoesForward }
+    ensures forward { ForwardIsForwardable }
+    ensures last { CommandIsForwardable }
 {}
 
 /// Memory is sound when the device is opened, stays so when a request is taken in, and after each step of any turn by

@@ -3,7 +3,8 @@ use Rattle.std.proofs.Common.{subst}
 use Rattle.bow_core.specs.Steps.{IsStep}
 use Rattle.bow_core.specs.Views.{View, view_of, IsOpened}
 use Rattle.bow_core.proofs.GivenOut.{turn_opened}
-use Rattle.bow_core.proofs.Leading.{step_cause, unready_idle, idle_unready, idle_same, one_call, step_leads, step_keeps_on, step_space, step_tied}
+use Rattle.bow_core.proofs.Leading.{step_cause, unready_idle, idle_unready, idle_same, one_call, step_leads, step_keeps_on, step_space, step_tied, failure_told}
+use Rattle.bow_core.proofs.Forward.{step_flushes, step_forward}
 use Rattle.bow_core.proofs.Stepped.{stepped}
 use Rattle.bow_core.proofs.device.Core.step.Given.{Over}
 use Rattle.bow_core.proofs.device.Core.step.Goals.{After-step_turn}
@@ -57,3 +58,12 @@ returns-clause-leads g c = let k = (goal.at.returns-clause-leads g c).After-step
 
 pub returns-clause-further : goal.returns-clause-further
 returns-clause-further g c = let k = (goal.at.returns-clause-further g c).After-step_turn in step_keeps_on g.D.Disk.stated g.D.Disk.content g.D.Disk.moment g.D.Disk.left_since g.D.Disk.faults c.args.self.now c.args.turn c.step_turn.result (new g k) (opened g k) (step g k) g.met.D.Disk.shaped
+
+pub returns-clause-failed : goal.returns-clause-failed
+returns-clause-failed g c = let k = (goal.at.returns-clause-failed g c).After-step_turn in failure_told g.D.Disk.stated g.D.Disk.content g.D.Disk.moment g.D.Disk.left_since g.D.Disk.faults c.args.self.now c.args.turn c.step_turn.result (new g k) (opened g k)
+
+pub returns-clause-flushed : goal.returns-clause-flushed
+returns-clause-flushed g c = let k = (goal.at.returns-clause-flushed g c).After-step_turn in step_flushes g.D.Disk.stated g.D.Disk.content g.D.Disk.moment g.D.Disk.left_since g.D.Disk.faults c.args.self.now c.args.turn c.step_turn.result (new g k) (opened g k) (step g k) g.met.D.Disk.shaped
+
+pub returns-clause-forward : goal.returns-clause-forward
+returns-clause-forward g c = let k = (goal.at.returns-clause-forward g c).After-step_turn in step_forward g.D.Disk.stated g.D.Disk.content g.D.Disk.moment g.D.Disk.left_since g.D.Disk.faults c.args.self.now c.args.turn c.step_turn.result (new g k) (opened g k) (step g k) g.met.D.Disk.shaped
