@@ -26,10 +26,10 @@ pub rows_known : (h : ℕ) (parts : List Part) (trees : Store) → AreTrees (IsT
 rows_known h [] trees t = tt
 rows_known h (p ∷ ps) trees t = (tree_known h p (first_tree h trees) t.0, rows_known h ps (other_trees h trees) t.1)
 
-drops : {X : Type 0} (i n : ℕ) (xs : List X) → drop (i * n) (drop n xs) ≡ drop (suc i * n) xs
+pub drops : {X : Type 0} (i n : ℕ) (xs : List X) → drop (i * n) (drop n xs) ≡ drop (suc i * n) xs
 drops i n xs = let num : n + i * n ≡ suc i * n = omega arith in drop-drop (i * n) n xs ∙ ap (λ k. drop k xs) num
 
-none_gone : {X : Type 0} (n : ℕ) (xs : List X) → xs ≡ drop (0 * n) xs
+pub none_gone : {X : Type 0} (n : ℕ) (xs : List X) → xs ≡ drop (0 * n) xs
 none_gone n xs = let num : 0 * n ≡ 0 = omega arith in sym (ap (λ k. drop k xs) num)
 
 nearer : (h i : ℕ) (trees : Store) → tree_at h i (other_trees h trees) ≡ tree_at h (suc i) trees

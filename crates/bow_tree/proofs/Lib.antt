@@ -9,5 +9,6 @@ pub mod Around
 pub mod RunSteps
 pub mod Puts
 pub mod Changes
+pub mod Skips
 pub mod Tables
 pub mod Visits

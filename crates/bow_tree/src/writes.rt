@@ -1,5 +1,5 @@
 // Changes of a tree.
-ghost use Rattle.std.specs.Prelude.{◌≡◌, ◌*◌, ◌≤◌, length, take, replicate};
+ghost use Rattle.std.specs.Prelude.{◌≡◌, ◌*◌, ◌<◌, ◌≤◌, length, take, replicate};
 ghost use Rattle.bow_tree.specs.Rows.{put};
 ghost use Rattle.bow_tree.specs.Parts.{IsKnown};
 ghost use Rattle.bow_tree.specs.Trees.{blocks_of, kinds_in, IsTree, ArePartsRight, IsPut, leaf_kinds};
@@ -81,9 +81,46 @@ pub fn set_in(
     known_of(&Node::of_parts(node), below)
 }
 
-// The same for the blocks of some parts, whose trees have this height.
+// The same for the blocks of some parts, whose trees have this height. The parts that lie before them stay as they are.
 #[cycle(writes)]
 fn set_parts(
+    parts: &mut [Part],
+    trees: &mut [Part],
+    kinds: &mut [Kind],
+    height: u32,
+    from: u32,
+    to: u32,
+    kind: Kind,
+)
+    requires some { 1 ≤ height }
+    requires height { height ≤ 4 }
+    requires any { from < to }
+    requires inside { to ≤ length parts.old * blocks_of height }
+    requires room { HaveRoom height to (trees.old, kinds.old) }
+    requires trees { ArePartsRight height parts.old (trees.old, kinds.old) }
+    ensures trees { ArePartsRight height parts.new (trees.new, kinds.new) }
+    ensures put { IsPut height from to kind parts.old (trees.old, kinds.old) parts.new (trees.new, kinds.new) }
+{
+    let size = size_of(height);
+    let before = from / size;
+    let passed = before * size;
+    let (_before, parts) = parts.split_at_mut(before as usize);
+    let (_before, trees) = trees.split_at_mut(before as usize * parts_of(height));
+    let (_before, kinds) = kinds.split_at_mut(passed as usize);
+    set_next(
+        parts,
+        trees,
+        kinds,
+        height,
+        from - passed,
+        to - passed,
+        kind,
+    );
+}
+
+// The same, from the first of these parts on to the last one that has such a block.
+#[cycle(writes)]
+fn set_next(
     parts: &mut [Part],
     trees: &mut [Part],
     kinds: &mut [Kind],
@@ -99,7 +136,7 @@ fn set_parts(
     ensures trees { ArePartsRight height parts.new (trees.new, kinds.new) }
     ensures put { IsPut height from to kind parts.old (trees.old, kinds.old) parts.new (trees.new, kinds.new) }
 {
-    if parts.is_empty() {
+    if from >= to || parts.is_empty() {
         return;
     }
     let size = size_of(height);
@@ -117,5 +154,5 @@ fn set_parts(
     );
     let from = from.saturating_sub(size);
     let to = to.saturating_sub(size);
-    set_parts(others, trees, kinds, height, from, to, kind);
+    set_next(others, trees, kinds, height, from, to, kind);
 }

@@ -1,14 +1,17 @@
-use Rattle.std.proofs.Common.{◌≡◌, suc, ◌-◌, ◌<◌, ◌≤◌, min, List, ◌++◌, length, replicate, get_or, sym, ap, ◌∙◌, subst, arith}
+use Rattle.std.proofs.Common.{◌≡◌, ℕ, suc, ◌*◌, ◌-◌, ◌/◌, ◌<◌, ◌≤◌, min, List, ◌++◌, length, take, drop, replicate, get_or, sym, ap, ◌∙◌, subst, arith}
+use Rattle.std.proofs.Math.Nat.{div-mul-le_self}
 use Rattle.bow_tree.specs.declared.parts.Part.{Part}
 use Rattle.bow_tree.specs.Rows.{flat, put}
 use Rattle.bow_tree.specs.Parts.{no_part, IsKnown}
 use Rattle.bow_tree.specs.Trees.{Store, blocks_of, room_of, below_root, first_tree, other_trees, rows_of, kinds_in, AreTrees, IsTree}
 use Rattle.bow_tree.specs.Rooms.{HasRoom, HaveRoom}
+use Rattle.bow_tree.proofs.Pieces.{both, levels}
 use Rattle.bow_tree.proofs.Puts.{put_none, put_all}
+use Rattle.bow_tree.proofs.Skips.{IsChange, IsAsLong, before_and, behind, no_parts_put, room_before, room_behind, trees_behind, skipped}
 use Rattle.bow_tree.proofs.Descents.{tree_known, rows_known}
 use Rattle.bow_tree.proofs.Rooms.{first_roomy, other_roomy, open_roomy}
 use Rattle.bow_tree.proofs.Changes.{first_part, first_set, Cut, cut, seam, parts_put, parts_trees, alike_kinds, tall, shape, kept, Counts, counts_filled, counts_open, closed, closed_kinds, closed_tree, leaf_changed}
-use Rattle.bow_tree.proofs.writes.+writes.Goals.{set_in-else-from-eq0-via-then-from-eq0+else-to-size, set_in-else-from-eq0-via-else-from-eq0, set_in-then-known-size, set_in-else-known-size}
+use Rattle.bow_tree.proofs.writes.+writes.Goals.{set_next-then-from-to-via-then-from-to, set_next-then-from-to-via-else-from-to+then-is_empty, set_in-else-from-eq0-via-then-from-eq0+else-to-size, set_in-else-from-eq0-via-else-from-eq0, set_in-then-known-size, set_in-else-known-size}
 use Rattle.bow_tree.proofs.writes.+writes.Goals as goal
 
 pub set_in-returns-then-from-to-clause-put : goal.set_in-returns-then-from-to-clause-put
@@ -61,7 +64,7 @@ set_in-set_parts-requires t c =
     let width : length c.if-known-size.node ≡ 16 = c.if-known-size.auto.node ∙ c.split_at_mut-node.ensures.front_len in
     let room = open_roomy h c.args.to tree (omega (arith, above)) (omega (arith, c.if-from-to.false)) c.requires.room in
     let roomy = subst (λ (l : Store). HaveRoom g c.args.to l) (ap (λ l. (l, c.args.kinds.now)) (sym c.split_at_mut-node.ensures.back)) room.1 in
-    (omega (arith, c.decreases, width, high), (above, (omega (arith, c.requires.height), (roomy, counts.trees_right))))
+    (omega (arith, c.decreases, width, high), (above, (omega (arith, c.requires.height), (omega (arith, c.if-from-to.false), (omega (arith, c.requires.inside, s.sized, ap (λ n. n * blocks_of g) width), (roomy, counts.trees_right))))))
 
 pub set_in-known_of-requires-clause-known : goal.set_in-known_of-requires-clause-known
 set_in-known_of-requires-clause-known t c =
@@ -128,8 +131,8 @@ set_in-returns-clause-put t c =
     ∙ closed_kinds g c.known_of.result c.set_parts.new.parts after (c.set_parts.new.parts ++ after.0, after.1) join told
     ∙ c.set_parts.ensures.put ∙ ap (put c.args.from c.args.to c.args.kind) counts.kinds_right
 
-pub set_parts-set_in-requires : goal.set_parts-set_in-requires
-set_parts-set_in-requires t c =
+pub set_next-set_in-requires : goal.set_next-set_in-requires
+set_next-set_in-requires t c =
     let h = c.args.height in
     let some : 0 < length c.args.parts.now = omega (arith, c.split_at_mut-part.ensures.back_len) in
     let first : Part = get_or c.split_at_mut-part.result.0.now 0 no_part in
@@ -148,8 +151,8 @@ set_parts-set_in-requires t c =
     let room = subst (λ n. HasRoom h n low) (sym to_low) (subst (HasRoom h (min c.args.to (blocks_of h))) (sym s.first) roomy) in
     (omega (arith, c.decreases), (omega (arith, c.requires.height), (room, (subst (IsTree h first) (sym s.first) trees.0, omega (arith, to_low)))))
 
-pub set_parts-set_parts-requires : goal.set_parts-set_parts-requires
-set_parts-set_parts-requires t c =
+pub set_next-set_next-requires : goal.set_next-set_next-requires
+set_next-set_next-requires t c =
     let h = c.args.height in
     let some : 0 < length c.args.parts.now = omega (arith, c.split_at_mut-part.ensures.back_len) in
     let first : Part = get_or c.split_at_mut-part.result.0.now 0 no_part in
@@ -168,8 +171,8 @@ set_parts-set_parts-requires t c =
     let room = subst (λ n. HaveRoom h n rest) (sym to) (subst (HaveRoom h (c.args.to - blocks_of h)) (sym s.others) roomy) in
     (omega (arith, c.decreases, c.split_at_mut-part.ensures.back_len, some), (c.requires.some, (omega (arith, c.requires.height), (room, subst (AreTrees (IsTree h) h others) (sym s.others) trees.1))))
 
-pub set_parts-returns-clause-put : goal.set_parts-returns-clause-put
-set_parts-returns-clause-put t c =
+pub set_next-returns-clause-put : goal.set_next-returns-clause-put
+set_next-returns-clause-put t c =
     let h = c.args.height in
     let some : 0 < length c.args.parts.now = omega (arith, c.split_at_mut-part.ensures.back_len) in
     let first : Part = get_or c.split_at_mut-part.result.0.now 0 no_part in
@@ -185,9 +188,9 @@ set_parts-returns-clause-put t c =
     let s : Cut h all low rest = cut h c.min.result c.min-2.result all low.0 rest.0 low.1 rest.1 places blocks c.split_at_mut-tree.ensures.front c.split_at_mut-tree.ensures.back c.split_at_mut-row.ensures.front c.split_at_mut-row.ensures.back in
     let set_is = first_set c.args.parts.now c.split_at_mut-part.result.0.now c.set_in.result some c.split_at_mut-part.ensures.front in
     let new_low : Store = (c.set_in.new.parts, c.set_in.new.kinds) in
-    let new_rest : Store = (c.set_parts.new.trees, c.set_parts.new.kinds) in
-    let join = seam h (length all.0) (length all.1) new_low new_rest (c.set_in.auto.parts ∙ c.split_at_mut-tree.ensures.front_len ∙ places) (omega (arith, c.set_parts.auto.trees, c.split_at_mut-tree.ensures.back_len, places))
-    (c.set_in.auto.kinds ∙ c.split_at_mut-row.ensures.front_len ∙ blocks) (omega (arith, c.set_parts.auto.kinds, c.split_at_mut-row.ensures.back_len, blocks)) in
+    let new_rest : Store = (c.set_next.new.trees, c.set_next.new.kinds) in
+    let join = seam h (length all.0) (length all.1) new_low new_rest (c.set_in.auto.parts ∙ c.split_at_mut-tree.ensures.front_len ∙ places) (omega (arith, c.set_next.auto.trees, c.split_at_mut-tree.ensures.back_len, places))
+    (c.set_in.auto.kinds ∙ c.split_at_mut-row.ensures.front_len ∙ blocks) (omega (arith, c.set_next.auto.kinds, c.split_at_mut-row.ensures.back_len, blocks)) in
     let to_low : c.min-4.result ≡ min c.args.to (blocks_of h) = c.min-4.ensures ∙ ap (min c.args.to) size in
     let from_low : c.min-3.result ≡ min c.args.from (blocks_of h) = c.min-3.ensures ∙ ap (min c.args.from) size in
     let kinds = kinds_in h first (first_tree h all) in
@@ -196,16 +199,16 @@ set_parts-returns-clause-put t c =
     let to : c.saturating_sub-to.result ≡ c.args.to - blocks_of h = c.saturating_sub-to.ensures ∙ ap (λ n. c.args.to - n) size in
     let one = c.set_in.ensures.put ∙ ap (λ (l : Store). put c.min-3.result c.min-4.result c.args.kind (kinds_in h first l)) s.first
     ∙ ap (λ n. put n c.min-4.result c.args.kind kinds) from_low ∙ ap (λ n. put (min c.args.from (blocks_of h)) n c.args.kind kinds) to_low in
-    let on = c.set_parts.ensures.put ∙ ap (λ (l : Store). put c.saturating_sub-from.result c.saturating_sub-to.result c.args.kind (flat (rows_of (kinds_in h) h others l))) s.others
+    let on = c.set_next.ensures.put ∙ ap (λ (l : Store). put c.saturating_sub-from.result c.saturating_sub-to.result c.args.kind (flat (rows_of (kinds_in h) h others l))) s.others
     ∙ ap (λ n. put n c.saturating_sub-to.result c.args.kind more) from ∙ ap (λ n. put (c.args.from - blocks_of h) n c.args.kind more) to in
     let sized = (tree_known h first (first_tree h all) trees.0).sized in
     let after : Store = (new_low.0 ++ new_rest.0, new_low.1 ++ new_rest.1) in
-    ap (λ (l : List Part). flat (rows_of (kinds_in h) h (l ++ c.set_parts.new.parts) after)) set_is
-    ∙ parts_put h c.args.from c.args.to c.args.kind first c.set_in.result others c.set_parts.new.parts all new_low new_rest after join sized one on
+    ap (λ (l : List Part). flat (rows_of (kinds_in h) h (l ++ c.set_next.new.parts) after)) set_is
+    ∙ parts_put h c.args.from c.args.to c.args.kind first c.set_in.result others c.set_next.new.parts all new_low new_rest after join sized one on
     ∙ ap (λ (l : List Part). put c.args.from c.args.to c.args.kind (flat (rows_of (kinds_in h) h l all))) (sym parts)
 
-pub set_parts-returns-clause-trees : goal.set_parts-returns-clause-trees
-set_parts-returns-clause-trees t c =
+pub set_next-returns-clause-trees : goal.set_next-returns-clause-trees
+set_next-returns-clause-trees t c =
     let h = c.args.height in
     let some : 0 < length c.args.parts.now = omega (arith, c.split_at_mut-part.ensures.back_len) in
     let first : Part = get_or c.split_at_mut-part.result.0.now 0 no_part in
@@ -221,9 +224,76 @@ set_parts-returns-clause-trees t c =
     let s : Cut h all low rest = cut h c.min.result c.min-2.result all low.0 rest.0 low.1 rest.1 places blocks c.split_at_mut-tree.ensures.front c.split_at_mut-tree.ensures.back c.split_at_mut-row.ensures.front c.split_at_mut-row.ensures.back in
     let set_is = first_set c.args.parts.now c.split_at_mut-part.result.0.now c.set_in.result some c.split_at_mut-part.ensures.front in
     let new_low : Store = (c.set_in.new.parts, c.set_in.new.kinds) in
-    let new_rest : Store = (c.set_parts.new.trees, c.set_parts.new.kinds) in
-    let join = seam h (length all.0) (length all.1) new_low new_rest (c.set_in.auto.parts ∙ c.split_at_mut-tree.ensures.front_len ∙ places) (omega (arith, c.set_parts.auto.trees, c.split_at_mut-tree.ensures.back_len, places))
-    (c.set_in.auto.kinds ∙ c.split_at_mut-row.ensures.front_len ∙ blocks) (omega (arith, c.set_parts.auto.kinds, c.split_at_mut-row.ensures.back_len, blocks)) in
+    let new_rest : Store = (c.set_next.new.trees, c.set_next.new.kinds) in
+    let join = seam h (length all.0) (length all.1) new_low new_rest (c.set_in.auto.parts ∙ c.split_at_mut-tree.ensures.front_len ∙ places) (omega (arith, c.set_next.auto.trees, c.split_at_mut-tree.ensures.back_len, places))
+    (c.set_in.auto.kinds ∙ c.split_at_mut-row.ensures.front_len ∙ blocks) (omega (arith, c.set_next.auto.kinds, c.split_at_mut-row.ensures.back_len, blocks)) in
     let after : Store = (new_low.0 ++ new_rest.0, new_low.1 ++ new_rest.1) in
-    subst (λ (l : List Part). AreTrees (IsTree h) h (l ++ c.set_parts.new.parts) after) (sym set_is)
-    (parts_trees h c.set_in.result c.set_parts.new.parts new_low new_rest after join c.set_in.ensures.tree c.set_parts.ensures.trees)
+    subst (λ (l : List Part). AreTrees (IsTree h) h (l ++ c.set_next.new.parts) after) (sym set_is)
+    (parts_trees h c.set_in.result c.set_next.new.parts new_low new_rest after join c.set_in.ensures.tree c.set_next.ensures.trees)
+
+pub set_next-returns-then-from-to-clause-put : goal.set_next-returns-then-from-to-clause-put
+set_next-returns-then-from-to-clause-put t c =
+    let kinds = flat (rows_of (kinds_in c.args.height) c.args.height c.args.parts.now (c.args.trees.now, c.args.kinds.now)) in
+    elim c.then-from-to.branch [
+      | set_next-then-from-to-via-then-from-to w ↦ sym (put_none c.args.from c.args.to c.args.kind kinds w.if-from-to.true)
+      | set_next-then-from-to-via-else-from-to+then-is_empty w ↦ no_parts_put c.args.height c.args.from c.args.to c.args.kind c.args.parts.now (c.args.trees.now, c.args.kinds.now) (levels (length c.args.parts.now) 0 (sym w.is_empty.ensures ∙ w.if-is_empty.true))
+    ]
+
+-- how far the parts before the first block go
+passed : (h from size : ℕ) → size ≡ blocks_of h → from / size * blocks_of h ≤ from
+passed h from size e = subst (λ n. from / size * n ≤ from) e (div-mul-le_self from size)
+
+pub set_parts-split_at_mut-before-requires-2 : goal.set_parts-split_at_mut-before-requires-2
+set_parts-split_at_mut-before-requires-2 t c =
+    let h = c.args.height in
+    let n = c.args.from / c.size_of-size.result in
+    let trees : Store = (c.args.trees.now, c.args.kinds.now) in
+    let inside = passed h c.args.from c.size_of-size.result c.size_of-size.ensures.size in
+    rw c.parts_of.ensures.room (room_before h n c.args.to trees (omega (arith, inside, c.requires.any)) c.requires.room).0
+
+pub set_parts-set_next-requires : goal.set_parts-set_next-requires
+set_parts-set_next-requires t c =
+    let h = c.args.height in
+    let n = c.args.from / c.size_of-size.result in
+    let trees : Store = (c.args.trees.now, c.args.kinds.now) in
+    let size = c.size_of-size.ensures.size in
+    let after : Store = (c.split_at_mut-before-2.result.1.now, c.split_at_mut-before-3.result.1.now) in
+    let here : after ≡ behind h n trees = both (c.split_at_mut-before-2.ensures.back ∙ ap (λ m. drop (n * m) trees.0) c.parts_of.ensures.room) (c.split_at_mut-before-3.ensures.back ∙ ap (λ m. drop (n * m) trees.1) size) in
+    let room = subst (λ m. HaveRoom h (c.args.to - n * m) after) (sym size) (subst (HaveRoom h (c.args.to - n * blocks_of h)) (sym here) (room_behind h n c.args.to trees c.requires.some c.requires.room)) in
+    let right = subst (λ l. AreTrees (IsTree h) h l after) (sym c.split_at_mut-before.ensures.back) (subst (AreTrees (IsTree h) h (drop n c.args.parts.now)) (sym here) (trees_behind h n c.args.parts.now trees c.requires.trees)) in
+    (omega (arith, c.decreases, c.split_at_mut-before.ensures.back_len), (c.requires.some, (c.requires.height, (room, right))))
+
+changed_behind : (t : ℕ) (c : goal.set_parts-After-kinds-3-1 t)
+    → IsChange c.args.height c.args.from c.args.to c.args.kind c.args.parts.now (c.args.trees.now, c.args.kinds.now)
+    (c.split_at_mut-before.result.0.now ++ c.set_next.new.parts) (c.split_at_mut-before-2.result.0.now ++ c.set_next.new.trees, c.split_at_mut-before-3.result.0.now ++ c.set_next.new.kinds)
+changed_behind t c =
+    let h = c.args.height in
+    let n = c.args.from / c.size_of-size.result in
+    let trees : Store = (c.args.trees.now, c.args.kinds.now) in
+    let size = c.size_of-size.ensures.size in
+    let room = c.parts_of.ensures.room in
+    let old : Store = (c.split_at_mut-before-2.result.1.now, c.split_at_mut-before-3.result.1.now) in
+    let rest : Store = (c.set_next.new.trees, c.set_next.new.kinds) in
+    let few : n ≤ length c.args.parts.now = omega (arith, c.split_at_mut-before.ensures.back_len) in
+    let here : old ≡ behind h n trees = both (c.split_at_mut-before-2.ensures.back ∙ ap (λ m. drop (n * m) trees.0) room) (c.split_at_mut-before-3.ensures.back ∙ ap (λ m. drop (n * m) trees.1) size) in
+    let low_parts = c.split_at_mut-before-2.ensures.front ∙ ap (λ m. take (n * m) trees.0) room in
+    let low_kinds = c.split_at_mut-before-3.ensures.front ∙ ap (λ m. take (n * m) trees.1) size in
+    let after : (c.split_at_mut-before-2.result.0.now ++ rest.0, c.split_at_mut-before-3.result.0.now ++ rest.1) ≡ before_and h n trees rest = both (ap (λ l. l ++ rest.0) low_parts) (ap (λ l. l ++ rest.1) low_kinds) in
+    let long : IsAsLong h n trees rest = record {
+      parts = omega (arith, c.set_next.auto.trees, c.split_at_mut-before-2.ensures.back_len, ap (λ m. n * m) room);
+      kinds = omega (arith, c.set_next.auto.kinds, c.split_at_mut-before-3.ensures.back_len, ap (λ m. n * m) size);
+    } in
+    let kinds = flat (rows_of (kinds_in h) h (drop n c.args.parts.now) (behind h n trees)) in
+    let put_behind = c.set_next.ensures.put
+    ∙ ap (λ l. put (c.args.from - n * c.size_of-size.result) (c.args.to - n * c.size_of-size.result) c.args.kind (flat (rows_of (kinds_in h) h l old))) c.split_at_mut-before.ensures.back
+    ∙ ap (λ l. put (c.args.from - n * c.size_of-size.result) (c.args.to - n * c.size_of-size.result) c.args.kind (flat (rows_of (kinds_in h) h (drop n c.args.parts.now) l))) here
+    ∙ ap (λ m. put (c.args.from - n * m) (c.args.to - n * m) c.args.kind kinds) size in
+    let change = skipped h n c.args.from c.args.to c.args.kind c.args.parts.now c.set_next.new.parts trees rest few (passed h c.args.from c.size_of-size.result size) c.requires.trees long (record { right = c.set_next.ensures.trees; changed = put_behind }) in
+    subst (λ l. IsChange h c.args.from c.args.to c.args.kind c.args.parts.now trees (l ++ c.set_next.new.parts) (c.split_at_mut-before-2.result.0.now ++ rest.0, c.split_at_mut-before-3.result.0.now ++ rest.1)) (sym c.split_at_mut-before.ensures.front)
+    (subst (IsChange h c.args.from c.args.to c.args.kind c.args.parts.now trees (take n c.args.parts.now ++ c.set_next.new.parts)) (sym after) change)
+
+pub set_parts-returns-clause-trees : goal.set_parts-returns-clause-trees
+set_parts-returns-clause-trees t c = (changed_behind t c).right
+
+pub set_parts-returns-clause-put : goal.set_parts-returns-clause-put
+set_parts-returns-clause-put t c = (changed_behind t c).changed
