@@ -18,4 +18,6 @@ pub mod Chosen
 pub mod Ending
 pub mod Sessions
 pub mod DiskCuts
+pub mod Prepared
+pub mod Quiet
 pub mod WorkedRows

@@ -102,7 +102,7 @@ abbrev one : Bool → ℕ
 one t = cond t 1 0
 
 -- an item tells a fault where the step told one
-item_faults : (plan : Plan) (s : Session) (told : Told) → sum_by faults_in (items (item_of plan s told)) ≡ one (tells_fault told)
+pub item_faults : (plan : Plan) (s : Session) (told : Told) → sum_by faults_in (items (item_of plan s told)) ≡ one (tells_fault told)
 item_faults plan s Idle = refl
 item_faults plan s Moved = refl
 item_faults plan s (Wrote t i) = refl

@@ -6,6 +6,8 @@ pub mod Fits
 pub mod Legality
 pub mod Cuts
 pub mod Promises
+pub mod Prepared
+pub mod Quiet
 pub mod Sections
 pub mod DiskCuts
 pub mod Rows

@@ -6,6 +6,8 @@ ghost use Rattle.bow_history.specs.Ends.{TurnsGoDown, ItemsGoDown};
 ghost use Rattle.bow_history.specs.Schedule.{ChosenIsReady};
 ghost use Rattle.bow_history.specs.Promises.{LoadedIsSession, TurnsKeepSession, SessionsAreLegal};
 ghost use Rattle.bow_history.specs.Cuts.{CutsAreOnTheWay, CutsAreAhead};
+ghost use Rattle.bow_history.specs.Prepared.{PreparedIsUntouched};
+ghost use Rattle.bow_history.specs.Quiet.{QuietRunsSucceed, EndsLed};
 ghost use Rattle.bow_history.specs.SoundSessions.{BeginningIsSound, TurnsKeepSound, RunsKeepSound, HasPlace};
 ghost use Rattle.bow_history.specs.SoundSessions.{SomeIsReady};
 ghost use Rattle.bow_history.specs.Rows.{MixedRow, MomentsRow};
@@ -67,6 +69,19 @@ pub fn schedule_law()
 pub fn cuts_law()
     ensures stand { CutsAreOnTheWay }
     ensures ahead { CutsAreAhead }
+{}
+
+/// A run whose journal has a prepare's Done after which no write was answered, and at the end of which no request waits,
+/// leaves a checkpoint, if it is in one, in which nothing was touched: so another session may begin there.
+pub fn prepared_law()
+    ensures { PreparedIsUntouched }
+{}
+
+/// Where a journal tells no fault, no call failed; and where none failed, a device that was led at the beginning is led
+/// at the end.
+pub fn quiet_law()
+    ensures succeed { QuietRunsSucceed }
+    ensures led { EndsLed }
 {}
 
 /// A session whose turns keep the contract that is written here is a run of the machine: each such turn leads from a

@@ -10,6 +10,6 @@ mod laws;
 
 pub use items::{Actor, Item};
 pub use laws::{
-    complete_law, cuts_law, disk_cuts_law, ends_law, legal_law, rows_law, schedule_law,
-    session_law, sound_law,
+    complete_law, cuts_law, disk_cuts_law, ends_law, legal_law, prepared_law, quiet_law, rows_law,
+    schedule_law, session_law, sound_law,
 };

@@ -67,6 +67,7 @@ pub mod SoundRoom
 pub mod SoundEnds
 pub mod SoundReady
 pub mod SoundTies
+pub mod LogStays
 pub mod Orders
 pub mod SoundTold
 pub mod SoundDeeds

@@ -108,3 +108,18 @@ ArmingIsUntouched = (g : Geometry) (m : Memory) (turn : Turn) (reply : Reply) (n
     → let after = (step_of g now m (task_of g m turn) reply).memory in
     (log.sequence ≡ 0) × (after.log ≡ m.log) × (after.kinds ≡ m.kinds)
     × ((b : ℕ) → b < g.blocks → (kind_at m.kinds b ≢ kinds.Changed) × (kind_at m.kinds b ≢ kinds.Saved))
+
+-- a write waits
+pub record WriteWaits (m : Memory) : Type 0 where
+  pub write : Request
+  pub waits : request_of write.ticket m.requests ≡ Some write
+  pub extent : Extent
+  pub payload : List ℕ
+  pub op : write.op ≡ Write extent payload
+
+-- A step within the checkpoint changes the log only where a write waits.
+abbrev pub LogStays : Type 0
+LogStays = (g : Geometry) (m : Memory) (turn : Turn) (reply : Reply) (now : Contents) → MemoryIsSound g m
+    → CanHaveIt g (call_of g m (task_of g m turn)) reply → m.phase ≡ Checkpoint
+    → let after = (step_of g now m (task_of g m turn) reply).memory in
+    after.phase ≡ Checkpoint → (after.log ≡ m.log) ⊎ WriteWaits m

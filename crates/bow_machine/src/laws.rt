@@ -9,7 +9,7 @@ ghost use Rattle.bow_machine.specs.MemoryLaws.{FaultsAreTold, RoomIsExact, NoSpa
 ghost use Rattle.bow_machine.specs.MemoryLaws.{CoveredStays};
 ghost use Rattle.bow_machine.specs.Ends.{StepsGoDown, StepsAreFew, EveryRunEnds, SomeTurnIsReady};
 ghost use Rattle.bow_machine.specs.Ties.{SavedIsNext, TouchedIsLeft, CoveredStaysTouched, LogsGoOn, ArmingIsUntouched};
-ghost use Rattle.bow_machine.specs.Ties.{CheckpointFollows};
+ghost use Rattle.bow_machine.specs.Ties.{CheckpointFollows, LogStays};
 ghost use Rattle.bow_machine.specs.Orders.{DiskByReply, OnlyReads, ReadsBeforeDecides, DecidingIsFlushed};
 ghost use Rattle.bow_machine.specs.Orders.{ReadsBeforeArms, DecidingStaysLed};
 ghost use Rattle.bow_machine.specs.Told.{StepsTellSo, ActsTellSo};
@@ -160,7 +160,7 @@ pub fn ends_law()
 /// and changed or saved only as one that is left to do of a write that waits; and it stays so as long as a waiting
 /// write covers it. The log's sequence rises only where that log is full, and a step makes one entry at most, where
 /// some block becomes saved. A step leads to the checkpoint only from there, or from Arming; before it begins no block
-/// is changed or saved.
+/// is changed or saved. Within it a step changes the log only where a write waits.
 pub fn ties_law()
     ensures saved { SavedIsNext }
     ensures touched { TouchedIsLeft }
@@ -168,6 +168,7 @@ pub fn ties_law()
     ensures logs { LogsGoOn }
     ensures arming { ArmingIsUntouched }
     ensures phases { CheckpointFollows }
+    ensures log { LogStays }
 {}
 
 /// Memory and what is told depend on what the disk holds by the reply alone. A disk that holds blocks gives such

@@ -158,7 +158,7 @@ by_clock plan s turns moments clock before calls i is kept inside low =
 -- ----------------------------------------------------------------------------------------------------------------
 -- Where it leads.
 
-same_content : (o : Option Content) (x y : Content) → o ≡ Some x → o ≡ Some y → x ≡ y
+pub same_content : (o : Option Content) (x y : Content) → o ≡ Some x → o ≡ Some y → x ≡ y
 same_content o x y here there = let e : Some x ≡ Some y = sym here ∙ there in cc e
 
 module _ {D : Type 0} (stated : D → Option Geometry) (content : D → Option Content) (moment : D → ℕ) (left : D → ℕ → List (List ℕ) → Type 0) (faults : D → ℕ) where
@@ -210,7 +210,7 @@ module _ {D : Type 0} (stated : D → Option Geometry) (content : D → Option C
     }
 
   -- the device with which the journal begins
-  begins : (first : View D) (f : Flat) (v : Run D) → WasLoaded stated content moment left faults first v → BeginsAt content (plan_in v) first f
+  pub begins : (first : View D) (f : Flat) (v : Run D) → WasLoaded stated content moment left faults first v → BeginsAt content (plan_in v) first f
       → (c : Content) × (content first.disk ≡ Some c) × IsReadyFor (plan_in v) first.memory (disk_of c) f
   begins first f v k at = by (content first.disk) refl at.0
     where
@@ -226,7 +226,7 @@ module _ {D : Type 0} (stated : D → Option Geometry) (content : D → Option C
         },
       )
 
-  led_there : (first : View D) (f : Flat) (g : Geometry) (c : Content) → first.geometry ≡ g → content first.disk ≡ Some c → LedIn content first f → IsLed g first.memory (contents_of c.now) (candidates_of c.candidates) f
+  pub led_there : (first : View D) (f : Flat) (g : Geometry) (c : Content) → first.geometry ≡ g → content first.disk ≡ Some c → LedIn content first f → IsLed g first.memory (contents_of c.now) (candidates_of c.candidates) f
   led_there first f g c sizes is led = subst (λ (h : Geometry). LedOver h first.memory (Some c) f) sizes (subst (λ o. LedOver first.geometry first.memory o f) is led)
 
   module _ (shaped : (d : D) (c : Content) → content d ≡ Some c → (g : Geometry) → stated d ≡ Some g → IsShaped g.block_size g.blocks c)
@@ -237,13 +237,18 @@ module _ {D : Type 0} (stated : D → Option Geometry) (content : D → Option C
         let b = begins first f v k at in
         from_run (StandsFor v.core.geometry) first f v k.turns k.run (runs_lead stated content moment left faults shaped only_now first k.turns v b.0 f k.cuts b.1 b.2)
 
+    pub leads_unfailed : (cuts_shaped : (d : D) (c : Content) → content d ≡ Some c → (g : Geometry) → stated d ≡ Some g → (t : ℕ) (image : List (List ℕ)) → left d t image → IsImage g.block_size g.blocks image)
+        → (first : View D) (f : Flat) (v : Run D) (k : WasLoaded stated content moment left faults first v) → BeginsAt content (plan_in v) first f → LedIn content first f
+        → NoneFails (plan_in v) (begun_over first) k.turns → LeadsFrom content moment left (StandsAheadToo v.core.geometry) first f v
+    leads_unfailed cuts_shaped first f v k at led fine =
+        let b = begins first f v k at in
+        from_run (StandsAheadToo v.core.geometry) first f v k.turns k.run
+        (runs_lead_ahead stated content moment left faults shaped only_now cuts_shaped first k.turns v b.0 f k.run k.cuts b.1 b.2 (led_there first f v.core.geometry b.0 k.sizes b.1 led) fine)
+
     pub leads_ahead : (cuts_shaped : (d : D) (c : Content) → content d ≡ Some c → (g : Geometry) → stated d ≡ Some g → (t : ℕ) (image : List (List ℕ)) → left d t image → IsImage g.block_size g.blocks image)
         → (first : View D) (f : Flat) (v : Run D) → WasLoaded stated content moment left faults first v → BeginsAt content (plan_in v) first f → LedIn content first f
         → StaysBelow (faults first.disk) (faults v.core.disk) → LeadsFrom content moment left (StandsAheadToo v.core.geometry) first f v
-    leads_ahead cuts_shaped first f v k at led low =
-        let b = begins first f v k at in
-        from_run (StandsAheadToo v.core.geometry) first f v k.turns k.run
-        (runs_lead_ahead stated content moment left faults shaped only_now cuts_shaped first k.turns v b.0 f k.run k.cuts b.1 b.2 (led_there first f v.core.geometry b.0 k.sizes b.1 led) (k.fine low))
+    leads_ahead cuts_shaped first f v k at led low = leads_unfailed cuts_shaped first f v k at led (k.fine low)
 
 -- ----------------------------------------------------------------------------------------------------------------
 -- At the end.

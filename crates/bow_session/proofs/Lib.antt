@@ -9,6 +9,7 @@ pub mod Found
 pub mod Going
 pub mod Laws
 pub mod Leading
+pub mod Anew
 pub mod Lent
 pub mod Lists
 pub mod Loaded

@@ -7,10 +7,12 @@ use Rattle.bow_disk.specs.Disk.{Content, IsCrash}
 use Rattle.bow_chain.specs.Contents.{Contents, contents_of}
 use Rattle.bow_flat.specs.Flat.{Flat}
 use Rattle.bow_machine.specs.MemoryIsSound.{MemoryIsSound}
+use Rattle.bow_core.specs.Further.{LedIn}
 use Rattle.bow_core.specs.Standing.{StandsIn}
 use Rattle.bow_core.specs.Views.{View}
 use Rattle.bow_script.specs.declared.scripts.Line.{Line}
 use Rattle.bow_history.specs.Cuts.{IsOnTheWayBy, NoneFails}
+use Rattle.bow_history.specs.DiskCuts.{StandsAheadToo}
 use Rattle.bow_history.specs.Ends.{in_hand, over_lanes}
 use Rattle.bow_history.specs.Fits.{Agrees}
 use Rattle.bow_history.specs.Journal.{Plan, Buffers, Place, beginning, Legal, IsMidway}
@@ -85,3 +87,19 @@ FaultsAreCounted faults first v =
 -- how many requests a script has
 abbrev pub requests_of : List (List (List Line)) → ℕ
 requests_of script = over_lanes (requests_in script) (lanes_of script)
+
+-- the journal tells no fault of the disk
+abbrev pub TellsNoFault : {D : Type 0} → Run D → Type 0
+TellsNoFault v = sum_by faults_in v.journal ≡ 0
+
+-- Where a session leads that began at this state over a device that was led for it, and in whose journal no fault is
+-- told: so that what cuts leave is ahead, too; and where no request waits, the device is led for the state of the place.
+pub record LeadsAhead {D : Type 0} (content : D → Option Content) (moment : D → ℕ) (left : D → ℕ → List (List ℕ)
+    → Type 0) (first : View D) (f : Flat) (v : Run D) : Type 0 where
+  pub leads : LeadsFrom content moment left (StandsAheadToo v.core.geometry) first f v
+  pub led : v.core.memory.requests ≡ [] → LedIn content v.core leads.place.flat
+
+-- Another session may begin over the device: in the checkpoint the log is the first one, and no block is changed or
+-- saved.
+abbrev pub MayBeginAnew : {D : Type 0} → View D → Type 0
+MayBeginAnew v = (plan : Plan) → plan.sizes ≡ v.geometry → StartsUntouched plan v.memory v.memory.phase v.memory.log

@@ -9,7 +9,10 @@ ghost use Rattle.bow_history.specs.Fits.{Agrees};
 ghost use Rattle.bow_flat.specs.Flat.{Flat};
 ghost use Rattle.bow_guard.specs.Standing.{StandsFor};
 ghost use Rattle.bow_core.specs.Further.{LedIn};
-ghost use Rattle.bow_session.specs.Leads.{BeginsAt, FaultsAreCounted, LeadsFrom, StaysBelow, WasLoaded, requests_of};
+ghost use Rattle.bow_history.specs.Prepared.{IsPrepared};
+ghost use Rattle.bow_session.specs.Leads.{BeginsAt, FaultsAreCounted, LeadsAhead, LeadsFrom, MayBeginAnew};
+ghost use Rattle.bow_session.specs.Leads.{StaysBelow, TellsNoFault, WasLoaded, requests_of};
+ghost use Rattle.bow_units.specs.declared.requests.Phase.TheVariants.{Checkpoint};
 ghost use Rattle.std.specs.Option.{option_map};
 ghost use Rattle.bow_log.specs.Generations.{fields_of};
 ghost use Rattle.bow_machine.specs.Calls.{ReadCall};
@@ -240,7 +243,8 @@ impl<D: Disk, R: Ranges + Drop> Session<D, R> {
 
     /// What was done, in order. The disk's count of faults rose by at least the answers that tell one. Where the disk
     /// tells its content, the journal is legal from the state for which the device stood when the session was loaded,
-    /// and so is the way of what cuts leave; where no call failed, that is ahead for its state too.
+    /// and so is the way of what cuts leave; where no call failed, that is ahead for its state too: so it is where the
+    /// journal tells no fault, and then the device stays led.
     pub fn journal(&self) -> &[Item]
         ensures is { result.now ≡ self.now.journal }
         ensures faults { (first : View D) → WasLoaded D.stated D.content D.moment D.left_since D.faults first self.now
@@ -252,6 +256,9 @@ impl<D: Disk, R: Ranges + Drop> Session<D, R> {
             self.now → BeginsAt D.content (plan_in self.now) first f → LedIn D.content first f → StaysBelow (D.faults
             first.disk) (D.faults self.now.core.disk) → LeadsFrom D.content D.moment D.left_since (StandsAheadToo
             self.now.core.geometry) first f self.now }
+        ensures unfailed { (first : View D) (f : Flat) → WasLoaded D.stated D.content D.moment D.left_since D.faults
+            first self.now → BeginsAt D.content (plan_in self.now) first f → LedIn D.content first f → TellsNoFault
+            self.now → LeadsAhead D.content D.moment D.left_since first f self.now }
     {
         self.desk.records.journal.as_slice()
     }
@@ -350,13 +357,18 @@ impl<D: Disk, R: Ranges + Drop> Session<D, R> {
     }
 
     /// Gives the device back. It has 16 places, and where all requests are answered none waits in it. Since it was
-    /// taken it has admitted at most as many requests as the script has.
+    /// taken it has admitted at most as many requests as the script has. Another session may begin over it where all
+    /// requests are answered, and it is in no checkpoint, or the journal has a prepare's `Done` after which no write
+    /// was answered: then the log is the first one, and no block is changed or saved.
     pub fn close(self) -> Core<D, R>
         ensures same { result ≡ self.core }
         ensures places { result.places ≡ 16 }
         ensures idle { IsOver self → result.memory.requests ≡ [] }
         ensures admitted { (first : View D) → WasLoaded D.stated D.content D.moment D.left_since D.faults first self
             → result.admitted ≤ first.admitted + requests_of self.script }
+        ensures anew { (first : View D) → WasLoaded D.stated D.content D.moment D.left_since D.faults first self
+            → IsOver self → (result.memory.phase ≡ Checkpoint → IsPrepared (plan_in self) self.journal)
+            → MayBeginAnew result }
     {
         let Session { desk } = self;
         let Desk { core, .. } = desk;

@@ -1,4 +1,5 @@
 use Rattle.bow_machine.proofs.SoundTies.{saved_is_next, touched_is_left, covered_stays_touched, logs_go_on, arming_is_untouched, checkpoint_follows}
+use Rattle.bow_machine.proofs.LogStays.{log_stays}
 use Rattle.bow_machine.proofs.laws.ties_law.Goals as goal
 
 pub returns-clause-saved : goal.returns-clause-saved
@@ -18,3 +19,6 @@ returns-clause-covered c = covered_stays_touched
 
 pub returns-clause-phases : goal.returns-clause-phases
 returns-clause-phases c = checkpoint_follows
+
+pub returns-clause-log : goal.returns-clause-log
+returns-clause-log c = log_stays
