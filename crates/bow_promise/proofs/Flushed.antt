@@ -1,5 +1,5 @@
 -- What was flushed and not changed since is left as it might have been read then.
-use Rattle.std.proofs.Common.{◌≡◌, ◌≢◌, inl, inr, ℕ, zero, suc, ◌+◌, ◌<◌, Bool, true, false, if◌then◌else◌, List, [], ◌∷◌, take, drop, Option, Some, None, arith, refl, sym, ap, ◌∙◌, subst}
+use Rattle.std.proofs.Common.{◌≡◌, ◌≢◌, ◌⊎◌, inl, inr, ℕ, zero, suc, ◌+◌, ◌<◌, Bool, true, false, if◌then◌else◌, List, [], ◌∷◌, take, drop, Option, Some, None, arith, refl, sym, ap, ◌∙◌, subst}
 use Rattle.std.specs.Prelude.{slice_get, Contains}
 use Rattle.std.proofs.lemmas.Bool.{cases_eq}
 use Rattle.std.proofs.lemmas.List.Elements.{Contains-push_cases}
@@ -21,8 +21,8 @@ use Rattle.bow_restore.proofs.Backs.{plain_unsound}
 use Rattle.bow_history.specs.declared.items.Item.{Item}
 use Rattle.bow_history.specs.declared.items.Item.TheVariants.{Answered}
 use Rattle.bow_history.specs.Journal.{Plan, Buffers, Place, Legal, ItemStep, FlushRow, CommitRow, beginning}
-use Rattle.bow_promise.specs.Cutting.{Play, IsCutOf}
-use Rattle.bow_promise.specs.Flushing.{Changes, IsUnchanged, MayBeReadAt, FlushedStay}
+use Rattle.bow_promise.specs.Cutting.{Play, IsCutOf, IsDoneAt}
+use Rattle.bow_promise.specs.Flushing.{Changes, IsUnchanged, IsAsBehind}
 use Rattle.bow_promise.proofs.Promised.{enough, at, way, row_of}
 use Rattle.bow_promise.proofs.Ways.{Happen, IsOf, AllFit, legal_happens, midway_happens}
 
@@ -109,13 +109,13 @@ spared plan b item unchanged Decides of = tt
 spared plan b item unchanged Commits of = tt
 spared plan b item unchanged Rests of = tt
 
-get_drop : {A : Type 0} (xs : List A) (n j : ℕ) (x : A) → slice_get (drop n xs) j ≡ Some x → slice_get xs (n + j) ≡ Some x
+pub get_drop : {A : Type 0} (xs : List A) (n j : ℕ) (x : A) → slice_get (drop n xs) j ≡ Some x → slice_get xs (n + j) ≡ Some x
 get_drop [] zero j x here = absurd (grind (arith, here))
 get_drop [] (suc n) j x here = absurd (grind (arith, here))
 get_drop (y ∷ xs) zero j x here = let e : 0 + j ≡ j = omega arith in subst (λ m. slice_get (y ∷ xs) m ≡ Some x) (sym e) here
 get_drop (y ∷ xs) (suc n) j x here = let e : suc n + j ≡ suc (n + j) = omega arith in subst (λ m. slice_get (y ∷ xs) m ≡ Some x) (sym e) (get_drop xs n j x here)
 
-get_take : {A : Type 0} (xs : List A) (n j : ℕ) (x : A) → slice_get (take n xs) j ≡ Some x → (j < n) × (slice_get xs j ≡ Some x)
+pub get_take : {A : Type 0} (xs : List A) (n j : ℕ) (x : A) → slice_get (take n xs) j ≡ Some x → (j < n) × (slice_get xs j ≡ Some x)
 get_take [] zero j x here = absurd (grind (arith, here))
 get_take [] (suc n) j x here = absurd (grind (arith, here))
 get_take (y ∷ xs) zero j x here = absurd (grind (arith, here))
@@ -163,26 +163,28 @@ module _ (g : Geometry) (valid : IsValid g) (f : Flat) (image : List (List ℕ))
   left_readable Deciding (inr shows) = k.current (contents_of image b) (shows.each b below)
   left_readable Committed shows = k.pending (contents_of image b) (shows.each b below)
 
-module _ (p : Play) (i : ℕ) (first : List (List ℕ)) (k : IsCutOf p (suc i) first) (plain : IsPlain (contents_of first 0)) (b : ℕ) (below : b < p.plan.sizes.blocks) (unchanged : IsUnchanged p b i k.way.front) where
+module _ (p : Play) (i : ℕ) (first : List (List ℕ)) (k : IsCutOf p (suc i) first) (plain : IsPlain (contents_of first 0)) where
   behind_item : (item : Item) (here : slice_get p.journal i ≡ Some item) → (at p (suc i) first k i (omega arith) item here).behind.flat.pending ≡ (at p (suc i) first k i (omega arith) item here).behind.flat.current
-      → MayBeReadAt p i b (contents_of first b)
+      → IsAsBehind p i k.way.front first
   behind_item item here flushed =
       let t = at p (suc i) first k i (omega arith) item here in
-      let known = t.behind.flat.current b in
-      let begin : IsReadable known b t.behind.flat = record { current = λ v may. may; pending = λ v may. subst (λ (c : ℕ → Option (List (List ℕ))). May (c b) v) flushed may } in
-      let on = legal_happens p.plan (enough p (suc i) first k) (Spares b) p.read (drop (suc i) (take k.way.front p.journal)) t.behind k.way.place (all_spare p b i k.way.front unchanged) t.rest in
-      let more = midway_happens p.plan (enough p (suc i) first k) (Spares b) (λ saved. tt) tt k.way.place k.way.flat k.way.midway in
-      let readable = stays_readable known p.plan.sizes.blocks b below more.0 k.way.place.flat k.way.flat more.1 (stays_readable known p.plan.sizes.blocks b below on.0 t.behind.flat k.way.place.flat on.1 begin) in
       record {
         then = t.behind;
         way = way_on p.plan p.read p.journal i item (beginning (opening p.image)) t.before t.behind here (way p (suc i) first k i (omega arith) item here) t.step;
-        may = left_readable p.plan.sizes k.sizes k.way.flat first k.whole plain b below known readable k.way.flat.phase k.way.stands;
+        each = λ b below unchanged. (
+            let known = t.behind.flat.current b in
+            let begin : IsReadable known b t.behind.flat = record { current = λ v may. may; pending = λ v may. subst (λ (c : ℕ → Option (List (List ℕ))). May (c b) v) flushed may } in
+            let on = legal_happens p.plan (enough p (suc i) first k) (Spares b) p.read (drop (suc i) (take k.way.front p.journal)) t.behind k.way.place (all_spare p b i k.way.front unchanged) t.rest in
+            let more = midway_happens p.plan (enough p (suc i) first k) (Spares b) (λ saved. tt) tt k.way.place k.way.flat k.way.midway in
+            let readable = stays_readable known p.plan.sizes.blocks b below more.0 k.way.place.flat k.way.flat more.1 (stays_readable known p.plan.sizes.blocks b below on.0 t.behind.flat k.way.place.flat on.1 begin) in
+            left_readable p.plan.sizes k.sizes k.way.flat first k.whole plain b below known readable k.way.flat.phase k.way.stands
+        );
       }
 
-pub flushed_stay : FlushedStay
-flushed_stay p i first (inl (lane, number, here, asked)) k plain b below unchanged =
-    let t = at p (suc i) first k i (omega arith) (Answered lane number Done) here in
-    behind_item p i first k plain b below unchanged (Answered lane number Done) here (flushed_row p.plan t.before t.behind.flat (row_of p lane number ops.Flush t.before t.behind asked t.step))
-flushed_stay p i first (inr (lane, number, here, asked)) k plain b below unchanged =
-    let t = at p (suc i) first k i (omega arith) (Answered lane number Done) here in
-    behind_item p i first k plain b below unchanged (Answered lane number Done) here (committed_row p.plan t.before t.behind.flat (row_of p lane number ops.Commit t.before t.behind asked t.step))
+  pub flushed_stay : IsDoneAt p i ops.Flush ⊎ IsDoneAt p i ops.Commit → IsAsBehind p i k.way.front first
+  flushed_stay (inl (lane, number, here, asked)) =
+      let t = at p (suc i) first k i (omega arith) (Answered lane number Done) here in
+      behind_item (Answered lane number Done) here (flushed_row p.plan t.before t.behind.flat (row_of p lane number ops.Flush t.before t.behind asked t.step))
+  flushed_stay (inr (lane, number, here, asked)) =
+      let t = at p (suc i) first k i (omega arith) (Answered lane number Done) here in
+      behind_item (Answered lane number Done) here (committed_row p.plan t.before t.behind.flat (row_of p lane number ops.Commit t.before t.behind asked t.step))

@@ -1,5 +1,7 @@
+pub mod Ways
+pub mod Promised
 pub mod Flushed
 pub mod Played
-pub mod Promised
+pub mod Rerunning
 pub mod Recovered
-pub mod Ways
+pub mod Fulfilled

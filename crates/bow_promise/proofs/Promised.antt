@@ -104,7 +104,7 @@ module _ (p : Play) (n : ℕ) (first : List (List ℕ)) (k : IsCutOf p n first) 
         let two = keeps_past p.plan.sizes.blocks AnyEvent more.0 k.way.place.flat k.way.flat more.1 one.past in
         record { past = two.past; used = two.used ∙ one.used; saved = two.saved ∙ one.saved }
 
-    committed_behind : (item : Item) (here : slice_get p.journal i ≡ Some item) → (at item here).behind.flat.phase ≡ Committed → k.way.flat.phase ≡ Committed
+    pub committed_behind : (item : Item) (here : slice_get p.journal i ≡ Some item) → (at item here).behind.flat.phase ≡ Committed → k.way.flat.phase ≡ Committed
     committed_behind item here done =
         let t = at item here in
         let on = legal_happens p.plan enough AnyEvent p.read (drop (suc i) (take k.way.front p.journal)) t.behind k.way.place (λ j item here event of. tt) t.rest in
@@ -137,7 +137,7 @@ prepared p before h state (inr prepares) =
       saved = λ b below in_use. subst (λ c. May c (before.flat.saved b)) (sym (state.arming_saved prepares.0 b in_use)) (0, omega arith, refl);
     })
 
-committed : (p : Play) (before : Place) (h : Flat) → CommitRow p.plan before Done h → h.phase ≡ Committed
+pub committed : (p : Play) (before : Place) (h : Flat) → CommitRow p.plan before Done h → h.phase ≡ Committed
 committed p before h (inl (mid, decides, commits)) = ap (λ (x : Flat). x.phase) commits.1
 committed p before h (inr (phase, (mid, flushes, commits))) = ap (λ (x : Flat). x.phase) commits.1
 

@@ -20,12 +20,6 @@ use Rattle.bow_promise.specs.Cutting.{Play, IsShown, EndsAs}
 use Rattle.bow_promise.specs.Recovering.{EndsShown, Recovers, IsLeftOf}
 use Rattle.bow_promise.proofs.Promised.{cuts_end_well}
 
--- one restoration more that was cut
-pub reruns_more : (g : Geometry) (first last cut : List (List ℕ)) (between : List (List (List ℕ))) → Reruns g first between last → PassesOn g last cut → IsImage g.block_size g.blocks cut
-    → Reruns g first (between ++ cut ∷ []) cut
-reruns_more g first last cut [] runs on image = (subst (λ (i : List (List ℕ)). PassesOn g i cut) runs on, image, refl)
-reruns_more g first last cut (next ∷ more) runs on image = (runs.0, runs.1, reruns_more g next last cut more runs.2 on image)
-
 -- what was not changed is flushed where there was nothing to restore
 untouched_now : (answer : Restored) (old new : Content) → Untouched answer old new → new.now ≡ old.now
 untouched_now Nothing old new u = u.0

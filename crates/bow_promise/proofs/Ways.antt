@@ -30,6 +30,12 @@ Happen n Q (event ∷ events) f h = Allows n event f × IsOrderly event f × Q e
 abbrev pub Happens : ℕ → (Event → Type 0) → Flat → Flat → Type 0
 Happens n Q f h = (events : List Event) × Happen n Q events f h
 
+-- the item answers such a request
+abbrev pub Asked : Plan → Op → Item → Type 0
+Asked plan op (Answered lane n outcome) = plan.request lane n ≡ Some op
+Asked plan op (Wrote lane n b) = ⊥
+Asked plan op (Got lane n b) = ⊥
+
 -- the item tells of this event
 abbrev pub IsOf : Plan → Item → Event → Type 0
 IsOf plan item (Writes b v) = Changes plan b item
@@ -37,9 +43,9 @@ IsOf plan item (Fails b v) = Changes plan b item
 IsOf plan item (Discards e) = (b : ℕ) → discards e b ≡ true → Changes plan b item
 IsOf plan item (Reads b v) = Unit {0}
 IsOf plan item Flushes = Unit {0}
-IsOf plan item (Arms saved) = Unit {0}
+IsOf plan item (Arms saved) = Asked plan ops.Prepare item
 IsOf plan item Prepares = Unit {0}
-IsOf plan item Decides = Unit {0}
+IsOf plan item Decides = Asked plan ops.Commit item
 IsOf plan item Commits = Unit {0}
 IsOf plan item Rests = Unit {0}
 
@@ -186,37 +192,37 @@ module _ (plan : Plan) (enough : 4 ≤ plan.sizes.block_size) where
     flush_happens p outcomes.ReservedMagic h row = absurd row
     flush_happens p (outcomes.WrongPhase phase) h row = absurd row
 
-    prepare_happens : (p : Place) (outcome : Outcome) (h : Flat) → PrepareRow plan p outcome h → Happens blocks (Of outcome) p.flat h
-    prepare_happens p outcomes.Done h (inl (saved, (mid, arms, prepares))) = two blocks (Of outcomes.Done) (Arms saved) Prepares p.flat mid h arms.0 tt tt arms.1 prepares.0 tt tt prepares.1
-    prepare_happens p outcomes.Done h (inr prepares) = one blocks (Of outcomes.Done) Prepares p.flat h prepares.0 tt tt prepares.1
-    prepare_happens p (outcomes.DiskFault n) h (is, phase, inl same) = none blocks (Of (outcomes.DiskFault n)) p.flat h same
-    prepare_happens p (outcomes.DiskFault n) h (is, phase, inr (saved, arms)) = one blocks (Of (outcomes.DiskFault n)) (Arms saved) p.flat h arms.0 tt tt arms.1
-    prepare_happens p (outcomes.NoSpace n) h row = none blocks (Of (outcomes.NoSpace n)) p.flat h row.3
-    prepare_happens p (outcomes.WrongPhase phase) h row = none blocks (Of (outcomes.WrongPhase phase)) p.flat h row.3
-    prepare_happens p outcomes.Data h row = absurd row
-    prepare_happens p outcomes.OutOfRange h row = absurd row
-    prepare_happens p outcomes.ReservedMagic h row = absurd row
-    prepare_happens p (outcomes.Unsettled phase) h row = absurd row
+    prepare_happens : (p : Place) → plan.request lane number ≡ Some ops.Prepare → (outcome : Outcome) (h : Flat) → PrepareRow plan p outcome h → Happens blocks (Of outcome) p.flat h
+    prepare_happens p asked outcomes.Done h (inl (saved, (mid, arms, prepares))) = two blocks (Of outcomes.Done) (Arms saved) Prepares p.flat mid h arms.0 tt asked arms.1 prepares.0 tt tt prepares.1
+    prepare_happens p asked outcomes.Done h (inr prepares) = one blocks (Of outcomes.Done) Prepares p.flat h prepares.0 tt tt prepares.1
+    prepare_happens p asked (outcomes.DiskFault n) h (is, phase, inl same) = none blocks (Of (outcomes.DiskFault n)) p.flat h same
+    prepare_happens p asked (outcomes.DiskFault n) h (is, phase, inr (saved, arms)) = one blocks (Of (outcomes.DiskFault n)) (Arms saved) p.flat h arms.0 tt asked arms.1
+    prepare_happens p asked (outcomes.NoSpace n) h row = none blocks (Of (outcomes.NoSpace n)) p.flat h row.3
+    prepare_happens p asked (outcomes.WrongPhase phase) h row = none blocks (Of (outcomes.WrongPhase phase)) p.flat h row.3
+    prepare_happens p asked outcomes.Data h row = absurd row
+    prepare_happens p asked outcomes.OutOfRange h row = absurd row
+    prepare_happens p asked outcomes.ReservedMagic h row = absurd row
+    prepare_happens p asked (outcomes.Unsettled phase) h row = absurd row
 
-    commit_happens : (p : Place) (outcome : Outcome) (h : Flat) → CommitRow plan p outcome h → Happens blocks (Of outcome) p.flat h
-    commit_happens p outcomes.Done h (inl (mid, decides, commits)) = two blocks (Of outcomes.Done) Decides Commits p.flat mid h decides.0 tt tt decides.1 commits.0 tt tt commits.1
-    commit_happens p outcomes.Done h (inr (phase, (mid, flushes, commits))) = two blocks (Of outcomes.Done) Flushes Commits p.flat mid h tt tt tt flushes.1 commits.0 tt tt commits.1
-    commit_happens p (outcomes.DiskFault n) h (is, phase, inl same) = none blocks (Of (outcomes.DiskFault n)) p.flat h same
-    commit_happens p (outcomes.DiskFault n) h (is, phase, inr decides) = one blocks (Of (outcomes.DiskFault n)) Decides p.flat h decides.0 tt tt decides.1
-    commit_happens p (outcomes.WrongPhase phase) h row = none blocks (Of (outcomes.WrongPhase phase)) p.flat h row.3
-    commit_happens p (outcomes.NoSpace n) h row = absurd row
-    commit_happens p outcomes.Data h row = absurd row
-    commit_happens p outcomes.OutOfRange h row = absurd row
-    commit_happens p outcomes.ReservedMagic h row = absurd row
-    commit_happens p (outcomes.Unsettled phase) h row = absurd row
+    commit_happens : (p : Place) → plan.request lane number ≡ Some ops.Commit → (outcome : Outcome) (h : Flat) → CommitRow plan p outcome h → Happens blocks (Of outcome) p.flat h
+    commit_happens p asked outcomes.Done h (inl (mid, decides, commits)) = two blocks (Of outcomes.Done) Decides Commits p.flat mid h decides.0 tt asked decides.1 commits.0 tt tt commits.1
+    commit_happens p asked outcomes.Done h (inr (phase, (mid, flushes, commits))) = two blocks (Of outcomes.Done) Flushes Commits p.flat mid h tt tt tt flushes.1 commits.0 tt tt commits.1
+    commit_happens p asked (outcomes.DiskFault n) h (is, phase, inl same) = none blocks (Of (outcomes.DiskFault n)) p.flat h same
+    commit_happens p asked (outcomes.DiskFault n) h (is, phase, inr decides) = one blocks (Of (outcomes.DiskFault n)) Decides p.flat h decides.0 tt asked decides.1
+    commit_happens p asked (outcomes.WrongPhase phase) h row = none blocks (Of (outcomes.WrongPhase phase)) p.flat h row.3
+    commit_happens p asked (outcomes.NoSpace n) h row = absurd row
+    commit_happens p asked outcomes.Data h row = absurd row
+    commit_happens p asked outcomes.OutOfRange h row = absurd row
+    commit_happens p asked outcomes.ReservedMagic h row = absurd row
+    commit_happens p asked (outcomes.Unsettled phase) h row = absurd row
 
     row_happens : (p : Place) (op : Op) → plan.request lane number ≡ Some op → (outcome : Outcome) (k : ℕ) (h : Flat) → Row plan p op outcome k h → Happens blocks (Of outcome) p.flat h
     row_happens p (ops.Write e payload) asked outcome k h row = write_happens p e payload asked outcome k h row
     row_happens p (ops.Read e payload) asked outcome k h row = read_happens p e outcome k h row
     row_happens p (ops.Discard e) asked outcome k h row = discard_happens p e asked outcome h row
     row_happens p ops.Flush asked outcome k h row = flush_happens p outcome h row
-    row_happens p ops.Prepare asked outcome k h row = prepare_happens p outcome h row
-    row_happens p ops.Commit asked outcome k h row = commit_happens p outcome h row
+    row_happens p ops.Prepare asked outcome k h row = prepare_happens p asked outcome h row
+    row_happens p ops.Commit asked outcome k h row = commit_happens p asked outcome h row
 
   wrote_happens : (lane n b : ℕ) (op : Op) (p q : Place) → IsWrote plan lane b op p q → Happens blocks (IsOf plan (Wrote lane n b)) p.flat q.flat
   wrote_happens lane n b (ops.Write e payload) p q (proper, opened, below, is, alone, next) =

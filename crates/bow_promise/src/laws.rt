@@ -1,7 +1,6 @@
 // What is promised.
-ghost use Rattle.bow_promise.specs.Flushing.{FlushedStay};
 ghost use Rattle.bow_promise.specs.Played.{CutsAreCuts, CutsHaveItems};
-ghost use Rattle.bow_promise.specs.Promises.{CheckpointsStay, CommitsStay, CutsEndWell};
+ghost use Rattle.bow_promise.specs.Promises.{BootsAreReruns, CheckpointsStay, CommitsStay, CutsArePromised, CutsEndWell};
 
 use bow_disk::Disk;
 
@@ -12,10 +11,11 @@ use bow_disk::Disk;
 /// that a cut may leave of it. Wherever there is nothing to restore, what was flushed and not changed since is left as
 /// it might have been read then.
 pub fn promise_law()
+    ensures promised { CutsArePromised }
     ensures ends { CutsEndWell }
     ensures checkpoint { CheckpointsStay }
     ensures committed { CommitsStay }
-    ensures flushed { FlushedStay }
+    ensures boots { BootsAreReruns }
 {}
 
 /// What `play` leaves when it is cut, over a disk that was settled before it, is what the promises speak of: a cut of

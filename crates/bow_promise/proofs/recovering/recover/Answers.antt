@@ -1,5 +1,6 @@
 use Rattle.std.proofs.Common.{◌++◌, ◌∷◌, []}
-use Rattle.bow_promise.proofs.Recovered.{recovers, reruns_more}
+use Rattle.bow_promise.proofs.Recovered.{recovers}
+use Rattle.bow_promise.proofs.Rerunning.{reruns_more}
 use Rattle.bow_promise.proofs.recovering.recover.Goals as goal
 
 pub returns-clause-recovers : goal.returns-clause-recovers
