@@ -236,7 +236,7 @@ module _ (p : Play) (n : ℕ) (first : List (List ℕ)) (k : IsCutOf p n first) 
       let unsound = plain_unsound p.plan.sizes k.sizes first k.whole plain in
       (reruns_pass_on p.plan.sizes first last between k.sizes k.whole (λ log older sound. absurd (unsound log older sound)) runs).unsound unsound
 
-  ends : (recoveries : List (List (List ℕ))) (last final : List (List ℕ)) → Recoveries p.plan.sizes first recoveries last → EndsWell p.plan.sizes last final → IsFulfilled p n k.way.front first final
+  pub ends : (recoveries : List (List (List ℕ))) (last final : List (List ℕ)) → Recoveries p.plan.sizes first recoveries last → EndsWell p.plan.sizes last final → IsFulfilled p n k.way.front first final
   ends recoveries last final all well =
       let runs = boots_are_reruns p.plan.sizes first last recoveries k.whole all in
       let boot = ended_of p.plan.sizes last final well in

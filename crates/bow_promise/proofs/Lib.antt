@@ -1,7 +1,7 @@
 pub mod Ways
 pub mod Promised
 pub mod Flushed
-pub mod Played
 pub mod Rerunning
-pub mod Recovered
 pub mod Fulfilled
+pub mod Played
+pub mod Recovered

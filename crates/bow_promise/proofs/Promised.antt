@@ -40,7 +40,7 @@ module _ (g : Geometry) (valid : IsValid g) (f : Flat) (state : IsState f) (firs
       let unsound = plain_unsound g valid first whole shows.plain in
       record { same = (reruns_pass_on g first last between valid whole (λ log older sound. absurd (unsound log older sound)) runs).unsound unsound; shows = shows }
 
-  back : HasCheckpointIn g f.phase f (contents_of first) → ComesBack g f (contents_of last)
+  pub back : HasCheckpointIn g f.phase f (contents_of first) → ComesBack g f (contents_of last)
   back has = held_from_the_checkpoint g f first last between valid whole state has runs
 
   ends_as : (phase : Phase) → f.phase ≡ phase → StandsIn g phase f (contents_of first) → EndsAs g phase f first last
@@ -79,7 +79,7 @@ module _ (p : Play) (n : ℕ) (first : List (List ℕ)) (k : IsCutOf p n first) 
       let happens = legal_happens p.plan enough AnyEvent p.read items (beginning (opening p.image)) q (λ i item here event of. tt) legal in
       keeps_valid p.plan.sizes.blocks AnyEvent happens.0 (opening p.image) q.flat happens.1 (opening_valid p.image k.plain)
 
-  flat_valid : IsState k.way.flat
+  pub flat_valid : IsState k.way.flat
   flat_valid =
       let happens = midway_happens p.plan enough AnyEvent (λ saved. tt) tt k.way.place k.way.flat k.way.midway in
       keeps_valid p.plan.sizes.blocks AnyEvent happens.0 k.way.place.flat k.way.flat happens.1 (place_valid (take k.way.front p.journal) k.way.place k.way.before)

@@ -1,5 +1,5 @@
 // What is promised.
-ghost use Rattle.bow_promise.specs.Played.{CutsAreCuts, CutsHaveItems};
+ghost use Rattle.bow_promise.specs.Played.{PlaysArePromised};
 ghost use Rattle.bow_promise.specs.Promises.{BootsAreReruns, CheckpointsStay, CommitsStay, CutsArePromised, CutsEndWell};
 
 use bow_disk::Disk;
@@ -19,8 +19,8 @@ pub fn promise_law()
 {}
 
 /// What `play` leaves when it is cut, over a disk that was settled before it, is what the promises speak of: a cut of
-/// the play that its session's journal tells, and since the moment of an item one that has the item.
+/// the play that its session's journal tells, since the moment of an item one that has the item, and at the end one that
+/// has all.
 pub fn cut_law<D: Disk>()
-    ensures ever { CutsAreCuts D.stated D.content D.moment D.left_since }
-    ensures item { CutsHaveItems D.stated D.content D.moment D.left_since }
+    ensures { PlaysArePromised D.stated D.content D.moment D.left_since }
 {}

@@ -1,14 +1,18 @@
-use Rattle.std.proofs.Common.{◌++◌, ◌∷◌, []}
-use Rattle.bow_promise.proofs.Recovered.{recovers}
-use Rattle.bow_promise.proofs.Rerunning.{reruns_more}
+use Rattle.bow_promise.proofs.Recovered.{recovers, restoration_recovers}
 use Rattle.bow_promise.proofs.recovering.recover.Goals as goal
 
-pub returns-clause-recovers : goal.returns-clause-recovers
-returns-clause-recovers g c k is p n first left =
-    recovers g.D.Disk.content c.args.geometry c.restore.new.disk c.restore.result k (c.restore.ensures.plain k is) c.args.disk.now is left.settled c.restore.ensures.back p n first left
-
-pub returns-clause-cuts : goal.returns-clause-cuts
-returns-clause-cuts g c k new is told p n first left cut since =
+pub returns-clause-recovered : goal.returns-clause-recovered
+returns-clause-recovered g c content is p n first k sizes left =
     let D = g.D.Disk in
-    let image = g.met.D.Disk.cuts_shaped c.restore.new.disk new told c.args.geometry c.restore.ensures.sizes (D.moment c.args.disk.now) cut since in
-    (left.between ++ cut ∷ [], reruns_more c.args.geometry first k.now cut left.between left.reruns (c.restore.ensures.settled k is left.settled cut since) image)
+    let law = g.met.D.Disk in
+    let done = c.restore.ensures in
+    restoration_recovers D.stated D.content D.moment D.left_since law.shaped law.cuts_shaped law.counts_now law.only_now c.args.geometry c.args.disk.now c.restore.new.disk content is c.requires.sizes done.sizes p n first k sizes left c.restore.result
+    (done.plain content is) done.back (done.cuts content is)
+
+pub returns-clause-recovers : goal.returns-clause-recovers
+returns-clause-recovers g c content is p n first k sizes left =
+    let D = g.D.Disk in
+    let law = g.met.D.Disk in
+    let done = c.restore.ensures in
+    recovers D.stated D.content D.moment D.left_since law.shaped law.cuts_shaped law.counts_now law.only_now c.args.geometry c.args.disk.now c.restore.new.disk content is c.requires.sizes done.sizes p n first k sizes left c.restore.result
+    (done.plain content is) done.back
