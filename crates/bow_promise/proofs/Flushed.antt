@@ -178,7 +178,7 @@ module _ (p : Play) (i : ℕ) (first : List (List ℕ)) (k : IsCutOf p (suc i) f
             let more = midway_happens p.plan (enough p (suc i) first k) (Spares b) (λ saved. tt) tt k.way.place k.way.flat k.way.midway in
             let readable = stays_readable known p.plan.sizes.blocks b below more.0 k.way.place.flat k.way.flat more.1 (stays_readable known p.plan.sizes.blocks b below on.0 t.behind.flat k.way.place.flat on.1 begin) in
             left_readable p.plan.sizes k.sizes k.way.flat first k.whole plain b below known readable k.way.flat.phase k.way.stands
-        );
+            );
       }
 
   pub flushed_stay : IsDoneAt p i ops.Flush ⊎ IsDoneAt p i ops.Commit → IsAsBehind p i k.way.front first

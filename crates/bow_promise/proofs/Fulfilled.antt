@@ -1,19 +1,15 @@
 -- What is promised of a cut is fulfilled.
-use Rattle.std.proofs.Common.{◌≡◌, ◌≢◌, ◌⊎◌, inl, inr, ℕ, zero, suc, ◌+◌, ◌<◌, ◌≤◌, Bool, true, false, not, List, [], ◌∷◌, take, drop, Option, Some, None, arith, refl, sym, ap, ◌∙◌, subst}
+use Rattle.std.proofs.Common.{◌≡◌, inl, inr, ℕ, suc, ◌+◌, ◌<◌, ◌≤◌, Bool, true, not, List, take, drop, Option, Some, None, arith, refl, sym, ap, ◌∙◌, subst}
 use Rattle.std.specs.Prelude.{slice_get}
-use Rattle.bow_units.specs.declared.requests.Op.{Op}
+use Rattle.std.proofs.lemmas.List.{take-take}
 use Rattle.bow_units.specs.declared.requests.Op.TheVariants as ops
 use Rattle.bow_units.specs.declared.requests.Outcome.{Outcome}
 use Rattle.bow_units.specs.declared.requests.Outcome.TheVariants.{Done}
 use Rattle.bow_units.specs.declared.requests.Phase.{Phase}
 use Rattle.bow_units.specs.declared.requests.Phase.TheVariants.{Trim, Arming, Checkpoint, Deciding, Committed}
-use Rattle.bow_units.specs.declared.sizes.Geometry.{Geometry}
 use Rattle.bow_units.specs.Magics.{HasMagic, IsPlain}
-use Rattle.bow_units.specs.Sizes.{IsValid}
-use Rattle.bow_disk.specs.Disk.{IsImage}
 use Rattle.bow_chain.specs.Contents.{contents_of}
-use Rattle.bow_flat.specs.Flat.{Flat, Event, May, is_any, after, Allows, opening}
-use Rattle.bow_flat.specs.Flat.Event.{Writes, Fails, Reads, Discards, Flushes, Arms, Prepares, Decides, Commits, Rests}
+use Rattle.bow_flat.specs.Flat.{Flat, May, is_any, opening}
 use Rattle.bow_guard.specs.Standing.{StandsIn}
 use Rattle.bow_restore.specs.Rewinds.{Reruns}
 use Rattle.bow_restore.proofs.Backs.{plain_unsound}
@@ -24,12 +20,13 @@ use Rattle.vold_commands.proofs.Backing.{magic_or_plain}
 use Rattle.vold_commands.proofs.Rebooting.{boots_end}
 use Rattle.bow_history.specs.declared.items.Item.{Item}
 use Rattle.bow_history.specs.declared.items.Item.TheVariants.{Wrote, Got, Answered}
-use Rattle.bow_history.specs.Journal.{Plan, Place, Legal, PrepareRow, IsMidway, beginning}
+use Rattle.bow_history.specs.Journal.{Plan, Place, Legal, PrepareRow, beginning}
 use Rattle.bow_promise.specs.Cutting.{Play, IsCutOf, IsDoneAt, IsTakenAt, EndsAs}
 use Rattle.bow_promise.specs.Flushing.{IsAsBefore, IsAsBehind}
-use Rattle.bow_promise.specs.Promises.{IsNotBegun, IsFulfilled, IsPromised, CutsArePromised}
+use Rattle.bow_promise.specs.Promises.{IsNotBegun, IsFulfilled, IsPrepareAt, CutsArePromised}
 use Rattle.bow_promise.specs.Recoveries.{Recoveries, EndsWell}
-use Rattle.bow_promise.proofs.Ways.{Happen, IsOf, Asked, AllFit, legal_happens}
+use Rattle.bow_promise.proofs.Ways.{Asked, AllFit, legal_happens}
+use Rattle.bow_promise.proofs.Armed.{IsArmed, NoArms, NoDecides, TakenIn, arms_none, arms_take, armed_at, decides_none, keeps_checkpoint, keeps_trim}
 use Rattle.bow_promise.proofs.Promised.{enough, at, row_of, committed, committed_behind, cuts_end_well, checkpoints_stay}
 use Rattle.bow_promise.proofs.Flushed.{get_drop, get_take, flushed_stay}
 use Rattle.bow_promise.proofs.Rerunning.{boots_are_reruns, reruns_image, ended_of, reads, ends_same}
@@ -55,80 +52,6 @@ fewer p n m first less k = record {
 
 -- ----------------------------------------------------------------------------------------------------------------
 -- Phases, where no prepare or no commit was begun.
-
--- the event is no arming, or no deciding
-abbrev NoArms : Event → Type 0
-NoArms (Arms saved) = ⊥
-NoArms event = Unit {0}
-
-abbrev NoDecides : Event → Type 0
-NoDecides Decides = ⊥
-NoDecides event = Unit {0}
-
-event_trim : (n : ℕ) (event : Event) (f : Flat) → f.phase ≡ Trim → Allows n event f → NoArms event → (after n event f).phase ≡ Trim
-event_trim n (Writes b v) f is may none = is
-event_trim n (Fails b v) f is may none = is
-event_trim n (Reads b v) f is may none = is
-event_trim n (Discards e) f is may none = is
-event_trim n Flushes f is may none = is
-event_trim n (Arms saved) f is may none = absurd none
-event_trim n Prepares f is may none = absurd (let clash : Trim ≡ Arming = sym is ∙ may in grind (arith, clash))
-event_trim n Decides f is may none = absurd (let clash : Trim ≡ Checkpoint = sym is ∙ may in grind (arith, clash))
-event_trim n Commits f is may none = absurd (let clash : Trim ≡ Deciding = sym is ∙ may in grind (arith, clash))
-event_trim n Rests f is may none = is
-
-keeps_trim : (n : ℕ) (events : List Event) (f h : Flat) → Happen n NoArms events f h → f.phase ≡ Trim → h.phase ≡ Trim
-keeps_trim n [] f h same is = ap (λ (x : Flat). x.phase) same ∙ is
-keeps_trim n (event ∷ events) f h (may, orderly, none, more) is = keeps_trim n events (after n event f) h more (event_trim n event f is may none)
-
-event_checkpoint : (n : ℕ) (event : Event) (f : Flat) → f.phase ≡ Checkpoint → Allows n event f → NoDecides event → (after n event f).phase ≡ Checkpoint
-event_checkpoint n (Writes b v) f is may none = is
-event_checkpoint n (Fails b v) f is may none = is
-event_checkpoint n (Reads b v) f is may none = is
-event_checkpoint n (Discards e) f is may none = is
-event_checkpoint n Flushes f is may none = is
-event_checkpoint n (Arms saved) f is may none = absurd (let clash : Checkpoint ≡ Trim = sym is ∙ may.0 in grind (arith, clash))
-event_checkpoint n Prepares f is may none = absurd (let clash : Checkpoint ≡ Arming = sym is ∙ may in grind (arith, clash))
-event_checkpoint n Decides f is may none = absurd none
-event_checkpoint n Commits f is may none = absurd (let clash : Checkpoint ≡ Deciding = sym is ∙ may in grind (arith, clash))
-event_checkpoint n Rests f is may none = is
-
-keeps_checkpoint : (n : ℕ) (events : List Event) (f h : Flat) → Happen n NoDecides events f h → f.phase ≡ Checkpoint → h.phase ≡ Checkpoint
-keeps_checkpoint n [] f h same is = ap (λ (x : Flat). x.phase) same ∙ is
-keeps_checkpoint n (event ∷ events) f h (may, orderly, none, more) is = keeps_checkpoint n events (after n event f) h more (event_checkpoint n event f is may none)
-
--- an item that answers no such request
-abbrev AnswersNone : Plan → Op → Item → Type 0
-AnswersNone plan op item = (lane number : ℕ) (outcome : Outcome) → item ≡ Answered lane number outcome → plan.request lane number ≡ Some op → ⊥
-
-not_asked : (plan : Plan) (op : Op) (item : Item) → AnswersNone plan op item → Asked plan op item → ⊥
-not_asked plan op (Answered lane number outcome) none asked = none lane number outcome refl asked
-not_asked plan op (Wrote lane number b) none asked = asked
-not_asked plan op (Got lane number b) none asked = asked
-
-arms_none : (plan : Plan) (item : Item) → AnswersNone plan ops.Prepare item → (event : Event) → IsOf plan item event → NoArms event
-arms_none plan item none (Writes b v) of = tt
-arms_none plan item none (Fails b v) of = tt
-arms_none plan item none (Reads b v) of = tt
-arms_none plan item none (Discards e) of = tt
-arms_none plan item none Flushes of = tt
-arms_none plan item none (Arms saved) of = not_asked plan ops.Prepare item none of
-arms_none plan item none Prepares of = tt
-arms_none plan item none Decides of = tt
-arms_none plan item none Commits of = tt
-arms_none plan item none Rests of = tt
-
-decides_none : (plan : Plan) (item : Item) → AnswersNone plan ops.Commit item → (event : Event) → IsOf plan item event → NoDecides event
-decides_none plan item none (Writes b v) of = tt
-decides_none plan item none (Fails b v) of = tt
-decides_none plan item none (Reads b v) of = tt
-decides_none plan item none (Discards e) of = tt
-decides_none plan item none Flushes of = tt
-decides_none plan item none (Arms saved) of = tt
-decides_none plan item none Prepares of = tt
-decides_none plan item none Decides of = not_asked plan ops.Commit item none of
-decides_none plan item none Commits of = tt
-decides_none plan item none Rests of = tt
 
 -- the phase that a prepare's Done leads to
 prepared_phase : (plan : Plan) (before : Place) (h : Flat) → PrepareRow plan before Done h → h.phase ≡ Checkpoint
@@ -158,8 +81,8 @@ module _ (p : Play) (n : ℕ) (first : List (List ℕ)) (k : IsCutOf p n first) 
   pub unprepared : IsNotBegun p ops.Prepare k.way.front k.way.place → IsPlain (contents_of first 0)
   unprepared none =
       let fits : AllFit p.plan NoArms (take k.way.front p.journal) = λ j item here. (
-          let found = get_take p.journal k.way.front j item here in
-          arms_none p.plan item (λ lane number outcome is. none.none j lane number outcome found.0 (found.1 ∙ ap Some is))
+      let found = get_take p.journal k.way.front j item here in
+      arms_none p.plan item (λ lane number outcome is. none.none j lane number outcome found.0 (found.1 ∙ ap Some is))
       ) in
       let happens = legal_happens p.plan (enough p n first k) NoArms p.read (take k.way.front p.journal) (beginning (opening p.image)) k.way.place fits k.way.before in
       let trim = midway_trim (keeps_trim p.plan.sizes.blocks happens.0 (opening p.image) k.way.place.flat happens.1 refl) none.next in
@@ -171,8 +94,8 @@ module _ (p : Play) (n : ℕ) (first : List (List ℕ)) (k : IsCutOf p n first) 
       let t = at p n first k i (omega (arith, below)) (Answered lane number Done) here in
       let begins = prepared_phase p.plan t.before t.behind.flat (row_of p lane number ops.Prepare t.before t.behind asked t.step) in
       let fits : AllFit p.plan NoDecides (drop (suc i) (take k.way.front p.journal)) = λ j item there. (
-          let found = get_take p.journal k.way.front (suc i + j) item (get_drop (take k.way.front p.journal) (suc i) j item there) in
-          decides_none p.plan item (λ other m outcome is. none.none (suc i + j) other m outcome found.0 (found.1 ∙ ap Some is))
+      let found = get_take p.journal k.way.front (suc i + j) item (get_drop (take k.way.front p.journal) (suc i) j item there) in
+      decides_none p.plan item (λ other m outcome is. none.none (suc i + j) other m outcome found.0 (found.1 ∙ ap Some is))
       ) in
       let happens = legal_happens p.plan (enough p n first k) NoDecides p.read (drop (suc i) (take k.way.front p.journal)) t.behind k.way.place fits t.rest in
       let checkpoint = midway_checkpoint (keeps_checkpoint p.plan.sizes.blocks happens.0 t.behind.flat k.way.place.flat happens.1 begins) none.next in
@@ -193,10 +116,11 @@ module _ (p : Play) (n : ℕ) (first : List (List ℕ)) (k : IsCutOf p n first) 
   -- The end.
 
   -- where nothing was to restore, and the image is left as it was
-  pub fulfilled_plain : (final : List (List ℕ)) → IsPlain (contents_of first 0) → final ≡ first → IsFulfilled p n k.way.front first final
+  pub fulfilled_plain : (final : List (List ℕ)) → IsPlain (contents_of first 0) → final ≡ first → IsFulfilled p n first k final
   fulfilled_plain final plain same = record {
     plain = subst (λ i. IsPlain (contents_of i 0)) (sym same) plain;
-    back = λ i below done magic. absurd (plain magic);
+    back = λ magic. absurd (plain magic);
+    checkpoint = λ i below done magic. absurd (plain magic);
     same = λ none. same;
     flushed = λ i below done none. subst (IsAsBehind p i k.way.front) (sym same) (flushed_stay p i first (fewer p n (suc i) first (omega (arith, below)) k) plain done);
   }
@@ -211,12 +135,54 @@ module _ (p : Play) (n : ℕ) (first : List (List ℕ)) (k : IsCutOf p n first) 
           let in_use : k.way.flat.used b ≡ true = taken.used b ∙ ap (λ c. not (is_any c)) is in
           subst (May (taken.then.flat.current b)) (sym (blocks b below in_use)) (taken.saved b below in_use)
 
+  armed_phase : HasMagic (contents_of first 0) → (phase : Phase) → StandsIn p.plan.sizes phase k.way.flat (contents_of first) → IsArmed phase
+  armed_phase magic Trim stands = absurd (stands.plain magic)
+  armed_phase magic Arming stands = tt
+  armed_phase magic Checkpoint stands = tt
+  armed_phase magic Deciding stands = tt
+  armed_phase magic Committed stands = tt
+
+  -- the moment at which a prepare armed
+  prepared_in : IsArmed k.way.place.flat.phase → k.way.flat.used ≡ k.way.place.flat.used → k.way.flat.saved ≡ k.way.place.flat.saved
+      → (i : ℕ) × IsPrepareAt p k.way.front k.way.place i × IsTakenAt p i k.way.flat
+  prepared_in armed used saved =
+      let at = armed_at p.plan (enough p n first k) p.read (take k.way.front p.journal) (beginning (opening p.image)) k.way.place k.way.before refl armed in
+      let found = get_take p.journal k.way.front at.index at.item at.here in
+      let less : at.index ≤ k.way.front = omega (arith, found.0) in (
+        at.index,
+        inl (found.0, answers at.item at.index found.1 at.asked),
+        record {
+          then = at.then;
+          way = subst (λ items. Legal p.plan p.read items (beginning (opening p.image)) at.then) (take-take at.index k.way.front p.journal less) at.way;
+          used = λ b. ap (λ (u : ℕ → Bool). u b) used ∙ at.taken.used b;
+          saved = λ b below in_use. subst (λ (s : ℕ → List ℕ). May (at.then.flat.current b) (s b)) (sym saved) (at.taken.saved b below (ap (λ (u : ℕ → Bool). u b) (sym used) ∙ in_use));
+        },
+      )
+    where
+      answers : (item : Item) (i : ℕ) → slice_get p.journal i ≡ Some item → Asked p.plan ops.Prepare item
+          → (lane number : ℕ) × (outcome : Outcome) × (slice_get p.journal i ≡ Some (Answered lane number outcome)) × (p.plan.request lane number ≡ Some ops.Prepare)
+      answers (Answered lane number outcome) i here asked = (lane, number, outcome, here, asked)
+      answers (Wrote lane number b) i here asked = absurd asked
+      answers (Got lane number b) i here asked = absurd asked
+
+  prepared_at : HasMagic (contents_of first 0) → (i : ℕ) × IsPrepareAt p k.way.front k.way.place i × IsTakenAt p i k.way.flat
+  prepared_at magic =
+      let armed = armed_phase magic k.way.flat.phase k.way.stands in
+      elim k.way.midway [
+        | inl same ↦ prepared_in (subst (λ (x : Flat). IsArmed x.phase) same armed) (ap (λ (x : Flat). x.used) same) (ap (λ (x : Flat). x.saved) same)
+        | inr (inl (lane, next, saved, arms)) ↦
+            let taken : TakenIn p.plan.sizes.blocks k.way.place.flat k.way.flat = subst (TakenIn p.plan.sizes.blocks k.way.place.flat) (sym arms.1) (arms_take p.plan.sizes.blocks saved k.way.place.flat arms.0) in
+            (k.way.front, inr (refl, (lane, next)), record { then = k.way.place; way = k.way.before; used = taken.used; saved = taken.saved })
+        | inr (inr (lane, next, decides)) ↦ prepared_in (subst IsArmed (sym decides.0) tt) (ap (λ (x : Flat). x.used) decides.1) (ap (λ (x : Flat). x.saved) decides.1)
+      ]
+
   -- where a log was in block 0, and the checkpoint is in place
   pub fulfilled_back : (final : List (List ℕ)) → HasMagic (contents_of first 0) → IsPlain (contents_of final 0)
-      → ((b : ℕ) → b < p.plan.sizes.blocks → k.way.flat.used b ≡ true → contents_of final b ≡ k.way.flat.saved b) → IsFulfilled p n k.way.front first final
+      → ((b : ℕ) → b < p.plan.sizes.blocks → k.way.flat.used b ≡ true → contents_of final b ≡ k.way.flat.saved b) → IsFulfilled p n first k final
   fulfilled_back final magic plain blocks = record {
     plain = plain;
-    back = λ i below done logged. as_saved i final blocks (checkpoints_stay p i first done (fewer p n (suc i) first (omega (arith, below)) k)).1;
+    back = λ logged. (let armed = prepared_at logged in (armed.0, armed.1, as_saved armed.0 final blocks armed.2));
+    checkpoint = λ i below done logged. as_saved i final blocks (checkpoints_stay p i first done (fewer p n (suc i) first (omega (arith, below)) k)).1;
     same = λ none. absurd (none magic);
     flushed = λ i below done none. absurd (none magic);
   }
@@ -236,7 +202,7 @@ module _ (p : Play) (n : ℕ) (first : List (List ℕ)) (k : IsCutOf p n first) 
       let unsound = plain_unsound p.plan.sizes k.sizes first k.whole plain in
       (reruns_pass_on p.plan.sizes first last between k.sizes k.whole (λ log older sound. absurd (unsound log older sound)) runs).unsound unsound
 
-  pub ends : (recoveries : List (List (List ℕ))) (last final : List (List ℕ)) → Recoveries p.plan.sizes first recoveries last → EndsWell p.plan.sizes last final → IsFulfilled p n k.way.front first final
+  pub ends : (recoveries : List (List (List ℕ))) (last final : List (List ℕ)) → Recoveries p.plan.sizes first recoveries last → EndsWell p.plan.sizes last final → IsFulfilled p n first k final
   ends recoveries last final all well =
       let runs = boots_are_reruns p.plan.sizes first last recoveries k.whole all in
       let boot = ended_of p.plan.sizes last final well in

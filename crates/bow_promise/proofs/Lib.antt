@@ -1,4 +1,5 @@
 pub mod Ways
+pub mod Armed
 pub mod Promised
 pub mod Flushed
 pub mod Rerunning

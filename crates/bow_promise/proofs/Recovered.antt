@@ -1,16 +1,14 @@
 -- What a restoration leaves of what a cut play left.
-use Rattle.std.proofs.Common.{◌≡◌, ◌⊎◌, inl, inr, ⊎_elim, ℕ, ◌<◌, ◌≤◌, Bool, List, [], ◌∷◌, ◌++◌, Option, Some, Result, Ok, Err, IfOk, arith, refl, sym, ap, ◌∙◌, subst}
+use Rattle.std.proofs.Common.{◌≡◌, inl, inr, ⊎_elim, ℕ, ◌<◌, ◌≤◌, Bool, List, [], ◌∷◌, ◌++◌, Option, Some, arith, refl, sym, ◌∙◌, subst}
 use Rattle.bow_units.specs.declared.requests.Phase.{Phase}
 use Rattle.bow_units.specs.declared.requests.Phase.TheVariants.{Trim, Arming, Checkpoint, Deciding, Committed}
 use Rattle.bow_units.specs.declared.sizes.Geometry.{Geometry}
 use Rattle.bow_units.specs.Magics.{HasMagic, IsPlain}
-use Rattle.bow_disk.specs.Disk.{Content, IsCrash, IsImage, IsShaped, IsSettledOn}
+use Rattle.bow_disk.specs.Disk.{Content, IsCrash, IsImage, IsShaped}
 use Rattle.bow_disk.specs.Moments.{AddsCuts, Tells}
 use Rattle.bow_disk.proofs.Moments.{tells_map}
-use Rattle.bow_disk.proofs.Settling.{cut_settled}
 use Rattle.bow_chain.specs.Contents.{contents_of}
 use Rattle.bow_chain.specs.Kept.{Holds}
-use Rattle.bow_flat.specs.Flat.{Flat}
 use Rattle.bow_guard.specs.Standing.{Shows, StandsIn, HasCheckpointIn}
 use Rattle.bow_restore.proofs.Backs.{now_is_crash}
 use Rattle.bow_restore.specs.Answers.{EndsBack, FromHeld, IsBack, Untouched}
@@ -21,12 +19,11 @@ use Rattle.bow_restore.specs.declared.answers.Restored.TheVariants.{Nothing, Don
 use Rattle.bow_return.specs.Laws.{ComesBack}
 use Rattle.vold_commands.proofs.Backing.{magic_or_plain}
 use Rattle.vold_commands.specs.Boots.{EndedBoot}
-use Rattle.vold_commands.specs.Boot.{BootLeaves, Whole}
+use Rattle.vold_commands.specs.Boot.{Whole}
 use Rattle.vold_commands.specs.declared.boots.Booted.{Booted}
-use Rattle.vold_commands.specs.declared.boots.BootFault.{BootFault}
 use Rattle.bow_promise.specs.Cutting.{Play, IsCutOf, EndsAs}
 use Rattle.bow_promise.specs.Promises.{IsFulfilled}
-use Rattle.bow_promise.specs.Recoveries.{Recoveries, EndsWell}
+use Rattle.bow_promise.specs.Recoveries.{Recoveries}
 use Rattle.bow_promise.specs.Recovering.{EndsShown, IsLeftOf, IsRecovered, IsRerun, HasEndedWell, Recovers}
 use Rattle.bow_promise.proofs.Promised.{cuts_end_well, flat_valid, back}
 use Rattle.bow_promise.proofs.Rerunning.{reruns_more}
@@ -104,21 +101,21 @@ module _ {D : Type 0} (stated : D → Option Geometry) (content : D → Option C
     same_now plain = let runs = runs_to c.now crash_now in stays_same p n first k c.now runs.0 plain runs.1
 
     -- a disk that is as the checkpoint was
-    fulfilled_when_back : HasMagic (contents_of first 0) → Tells content (IsBack g k.way.flat.used k.way.flat.saved) new → Tells content (λ d. IsFlushed d × IsFulfilled p n k.way.front first d.now) new
+    fulfilled_when_back : HasMagic (contents_of first 0) → Tells content (IsBack g k.way.flat.used k.way.flat.saved) new → Tells content (λ d. IsFlushed d × IsFulfilled p n first k d.now) new
     fulfilled_when_back magic is_back =
-        tells_map content (IsBack g k.way.flat.used k.way.flat.saved) (λ d. IsFlushed d × IsFulfilled p n k.way.front first d.now) new
+        tells_map content (IsBack g k.way.flat.used k.way.flat.saved) (λ d. IsFlushed d × IsFulfilled p n first k d.now) new
         (λ d is b. (b.flushed, fulfilled_back p n first k d.now magic b.plain (λ x below in_use. b.blocks x (subst (λ (y : Geometry). x < y.blocks) sizes below) in_use))) is_back
 
     -- a restoration that ended well
     pub restoration_fulfils : (answer : Restored) → (IsPlain (contents_of c.now 0) → Tells content (Untouched answer c) new)
         → FromHeld g content old (λ used saved. EndsBack g used saved content new answer)
-        → HasEndedWell answer → Tells content (λ d. IsFlushed d × IsFulfilled p n k.way.front first d.now) new
+        → HasEndedWell answer → Tells content (λ d. IsFlushed d × IsFulfilled p n first k d.now) new
     restoration_fulfils answer untouched from well = elim (magic_or_plain (contents_of first 0)) [
       | inr plain ↦
           let same = same_now plain in
-          tells_map content (Untouched answer c) (λ d. IsFlushed d × IsFulfilled p n k.way.front first d.now) new
-              (λ d is u. (untouched_flushed answer c d well u, fulfilled_plain p n first k d.now plain (untouched_now answer c d u ∙ same)))
-              (untouched (subst (λ i. IsPlain (contents_of i 0)) (sym same) plain))
+          tells_map content (Untouched answer c) (λ d. IsFlushed d × IsFulfilled p n first k d.now) new
+          (λ d is u. (untouched_flushed answer c d well u, fulfilled_plain p n first k d.now plain (untouched_now answer c d u ∙ same)))
+          (untouched (subst (λ i. IsPlain (contents_of i 0)) (sym same) plain))
       | inl magic ↦
           let all : (image : List (List ℕ)) → IsCrash c.candidates image → ComesBack p.plan.sizes k.way.flat (contents_of image) = λ image crash. comes_back p n first k image k.way.flat.phase magic (ends_as_now image crash) in
           fulfilled_when_back magic (is_back_of g k.way.flat.used k.way.flat.saved content new answer well (ends_back all answer from))
@@ -126,16 +123,19 @@ module _ {D : Type 0} (stated : D → Option Geometry) (content : D → Option C
 
     -- a boot that ended well
     pub boot_fulfils : (kept left_kept : Option (List ℕ)) (answer : Booted) → Tells content (λ d. IsFlushed d × EndedBoot (Whole g) c.now kept answer d.now left_kept) new
-        → Tells content (λ d. IsFlushed d × IsFulfilled p n k.way.front first d.now) new
+        → Tells content (λ d. IsFlushed d × IsFulfilled p n first k d.now) new
     boot_fulfils kept left_kept answer ended =
         let runs = runs_to c.now crash_now in
-        tells_map content (λ d. IsFlushed d × EndedBoot (Whole g) c.now kept answer d.now left_kept) (λ d. IsFlushed d × IsFulfilled p n k.way.front first d.now) new
-        (λ d is both. (both.0, ends p n first k runs.0 c.now d.now (recoveries_of p.plan.sizes first c.now runs.0 runs.1)
-        (inr (kept, left_kept, answer, subst (λ x. EndedBoot (Whole x) c.now kept answer d.now left_kept) (sym sizes) both.1)))) ended
+        tells_map content (λ d. IsFlushed d × EndedBoot (Whole g) c.now kept answer d.now left_kept) (λ d. IsFlushed d × IsFulfilled p n first k d.now) new
+        (λ d is both. (
+          both.0,
+          ends p n first k runs.0 c.now d.now (recoveries_of p.plan.sizes first c.now runs.0 runs.1)
+              (inr (kept, left_kept, answer, subst (λ x. EndedBoot (Whole x) c.now kept answer d.now left_kept) (sym sizes) both.1)),
+        )) ended
 
     pub restoration_recovers : (answer : Restored) → (IsPlain (contents_of c.now 0) → Tells content (Untouched answer c) new)
         → FromHeld g content old (λ used saved. EndsBack g used saved content new answer) → AddsCuts moment left (PassesOn g c.now) old new
-        → IsRecovered content moment left g p n k.way.front first (HasEndedWell answer) old new
+        → IsRecovered content moment left g p n first k (HasEndedWell answer) old new
     restoration_recovers answer untouched from adds = record {
       fulfils = restoration_fulfils answer untouched from;
       cuts = cuts_rerun first is_left adds;

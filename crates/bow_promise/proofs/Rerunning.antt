@@ -1,12 +1,11 @@
 -- What restorations and boots leave, one after another.
-use Rattle.std.proofs.Common.{◌≡◌, ◌⊎◌, inl, inr, ℕ, zero, suc, List, [], ◌∷◌, ◌++◌, Option, Some, None, refl, sym, ap, ◌∙◌, subst}
+use Rattle.std.proofs.Common.{◌≡◌, inl, inr, ℕ, zero, suc, List, [], ◌∷◌, ◌++◌, Option, None, refl, sym, ap, ◌∙◌, subst}
 use Rattle.bow_units.specs.declared.sizes.Geometry.{Geometry}
-use Rattle.bow_units.specs.Magics.{HasMagic, IsPlain}
+use Rattle.bow_units.specs.Magics.{IsPlain}
 use Rattle.bow_log.specs.Generations.{Generation}
 use Rattle.bow_disk.specs.Disk.{IsImage}
 use Rattle.bow_chain.specs.Contents.{contents_of}
 use Rattle.bow_chain.specs.Places.{base}
-use Rattle.bow_chain.specs.Sound.{IsSound}
 use Rattle.bow_chain.proofs.Counting.{same_sound}
 use Rattle.bow_restore.specs.Rewinds.{PassesOn, Reruns}
 use Rattle.vold_meta.specs.Attempts.{Tells}
@@ -16,7 +15,7 @@ use Rattle.vold_commands.specs.BootLaws.{CutOf}
 use Rattle.vold_commands.specs.declared.boots.Booted.{Booted}
 use Rattle.vold_commands.specs.declared.boots.Booted.TheVariants.{Plain, RolledBack}
 use Rattle.vold_commands.proofs.Booting as booting
-use Rattle.bow_promise.specs.Recoveries.{IsRecovery, Recoveries, EndsARestoration, EndsABoot, EndsWell}
+use Rattle.bow_promise.specs.Recoveries.{IsRecovery, Recoveries, EndsABoot, EndsWell}
 use Rattle.bow_promise.specs.Promises.{BootsAreReruns}
 
 -- one restoration more that was cut

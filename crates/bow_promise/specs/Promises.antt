@@ -22,16 +22,27 @@ pub record IsNotBegun (p : Play) (op : Op) (front : ℕ) (place : Place) : Type 
       → slice_get p.journal i ≡ Some (Answered lane number outcome) → p.plan.request lane number ≡ Some op → ⊥
   pub next : (lane : ℕ) → IsNext p.plan place lane op → ⊥
 
+-- A prepare stands at this index: its item answers one; or it is the end of the front, and some lane's next request is
+-- one.
+abbrev pub IsPrepareAt : Play → ℕ → Place → ℕ → Type 0
+IsPrepareAt p front place i = ((i < front) × ((lane number : ℕ) × (outcome : Outcome)
+    × (slice_get p.journal i ≡ Some (Answered lane number outcome)) × (p.plan.request lane number ≡ Some Prepare)))
+    ⊎ ((i ≡ front) × ((lane : ℕ) × IsNext p.plan place lane Prepare))
+
 -- What is left in the end of a play of which a cut left the first image, once its journal had its first n items. No
--- magic is in block 0. Where the cut had left a log there, and a prepare had been answered Done, each block is as it
--- might have been read right before that answer. Where it had left none, nothing was to restore, and each block that
--- was not changed since a flush or a commit was answered Done is as it might have been read then.
-pub record IsFulfilled (p : Play) (n front : ℕ) (first final : List (List ℕ)) : Type 0 where
+-- magic is in block 0. Where the cut had left a log there, each block is as it might have been read right before a
+-- prepare; and where a prepare had been answered Done, right before that answer. Where the cut had left no log, nothing
+-- was to restore, and each block that was not changed since a flush or a commit was answered Done is as it might have
+-- been read then.
+pub record IsFulfilled (p : Play) (n : ℕ) (first : List (List ℕ)) (cut : IsCutOf p n first) (final : List (List ℕ)) :
+    Type 0 where
   pub plain : IsPlain (contents_of final 0)
-  pub back : (i : ℕ) → i < n → IsDoneAt p i Prepare → HasMagic (contents_of first 0) → IsAsBefore p i final
+  pub back : HasMagic (contents_of first 0) → (i : ℕ) × IsPrepareAt p cut.way.front cut.way.place i
+      × IsAsBefore p i final
+  pub checkpoint : (i : ℕ) → i < n → IsDoneAt p i Prepare → HasMagic (contents_of first 0) → IsAsBefore p i final
   pub same : IsPlain (contents_of first 0) → final ≡ first
   pub flushed : (i : ℕ) → i < n → IsDoneAt p i Flush ⊎ IsDoneAt p i Commit → IsPlain (contents_of first 0)
-      → IsAsBehind p i front final
+      → IsAsBehind p i cut.way.front final
 
 -- The promise of an image that a cut left of a play, once its journal had its first n items. Until a prepare is begun
 -- no log is in block 0; from its Done on there is one until a commit is begun; and from the commit's Done on there is
@@ -46,7 +57,7 @@ pub record IsPromised (p : Play) (n : ℕ) (first : List (List ℕ)) : Type 0 wh
   pub committed : (i : ℕ) → i < n → IsDoneAt p i Commit → IsPlain (contents_of first 0)
   pub ends : (recoveries : List (List (List ℕ))) (last final : List (List ℕ))
       → Recoveries p.plan.sizes first recoveries last → EndsWell p.plan.sizes last final
-      → IsFulfilled p n cut.way.front first final
+      → IsFulfilled p n first cut final
 
 -- The law above all: play, cut anywhere; then restorations and boots, any number of them, each cut anywhere; then one
 -- that ends well.

@@ -13,7 +13,7 @@ use Rattle.bow_restore.specs.Replaying.{IsFlushed}
 use Rattle.bow_restore.specs.Rewinds.{Reruns}
 use Rattle.bow_restore.specs.declared.answers.Restored.{Restored}
 use Rattle.bow_restore.specs.declared.answers.Restored.TheVariants.{Nothing, Done}
-use Rattle.bow_promise.specs.Cutting.{Play}
+use Rattle.bow_promise.specs.Cutting.{Play, IsCutOf}
 use Rattle.bow_promise.specs.Promises.{IsFulfilled}
 
 -- restorations left this image of the first one, any number of them, each cut anywhere
@@ -28,11 +28,12 @@ IsLeftOf g first c = (image : List (List ℕ)) → IsCrash c.candidates image �
 -- ended well, what is promised of that cut is fulfilled, and all is flushed. Whatever a cut of the call leaves, and what
 -- it leaves itself, is again left of the first image: so the next one goes on from there.
 pub record IsRecovered {D : Type 0} (content : D → Option Content) (moment : D → ℕ) (left : D → ℕ → List (List ℕ)
-    → Type 0) (g : Geometry) (p : Play) (n front : ℕ) (first : List (List ℕ)) (ended_well : Type 0) (old new : D) :
+    → Type 0) (g : Geometry) (p : Play) (n : ℕ) (first : List (List ℕ)) (cut : IsCutOf p n first) (ended_well : Type 0)
+    (old new : D) :
     Type 0 where
-  pub fulfils : ended_well → Tells content (λ c. IsFlushed c × IsFulfilled p n front first c.now) new
-  pub cuts : (d : Content) → content new ≡ Some d → (cut : List (List ℕ)) → left new (moment old) cut
-      → IsRerun g first cut
+  pub fulfils : ended_well → Tells content (λ c. IsFlushed c × IsFulfilled p n first cut c.now) new
+  pub cuts : (d : Content) → content new ≡ Some d → (image : List (List ℕ)) → left new (moment old) image
+      → IsRerun g first image
   pub leaves : (d : Content) → content new ≡ Some d → IsLeftOf g first d
 
 -- a restoration ended well

@@ -4,12 +4,19 @@ ghost use Rattle.bow_promise.specs.Promises.{BootsAreReruns, CheckpointsStay, Co
 
 use bow_disk::Disk;
 
-/// Play a script over a device, cut it anywhere, and then cut restorations as often as may be, each anywhere. Before
-/// the checkpoint there is nothing to restore. From the answer of the prepare on the checkpoint is what the blocks held
-/// then, and it is held by whatever is left, so that the first restoration that ends well brings it back; until the
-/// deciding write of a commit. From the commit's answer on there is nothing to restore, and each block has a content
-/// that a cut may leave of it. Wherever there is nothing to restore, what was flushed and not changed since is left as
-/// it might have been read then.
+/// Play a script over a device, and cut it anywhere; then restorations and boots, as many as may be, each cut anywhere;
+/// then one that ends well. It does nothing.
+///
+/// - `promised`: the law above all. As long as the deciding write of a commit has not reached the disk, block 0 holds a
+///   log, and the first restoration that ends well has each block that was in use at the prepare as it might have been
+///   read right before the prepare's answer. From the commit's answer on, and before a prepare was begun, block 0 holds
+///   none, nothing is to restore, and each block that was flushed and not changed since is as it might have been read
+///   at that flush.
+/// - `ends`: by the phase of the state that was left, the checkpoint is held, or there is nothing to restore.
+/// - `checkpoint`: from a prepare's answer on, the checkpoint is what the blocks held then.
+/// - `committed`: from a commit's answer on there is nothing to restore, and each block has a content that a cut may
+///   leave of it.
+/// - `boots`: restorations and boots, cut or not, leave what restorations leave that were cut.
 pub fn promise_law()
     ensures promised { CutsArePromised }
     ensures ends { CutsEndWell }

@@ -24,7 +24,7 @@ pub fn recover<D: Disk>(alloc: Global, disk: &mut D, geometry: Geometry) -> Rest
     ensures cause { IsCaused None (D.faults disk.old) (D.faults disk.new) result }
     ensures recovered { (c : Content) → D.content disk.old ≡ Some c → (p : Play) (n : ℕ) (first : List (List ℕ))
         → (k : IsCutOf p n first) → p.plan.sizes ≡ geometry → IsLeftOf geometry first c
-        → IsRecovered D.content D.moment D.left_since geometry p n k.way.front first (HasEndedWell result) disk.old
+        → IsRecovered D.content D.moment D.left_since geometry p n first k (HasEndedWell result) disk.old
         disk.new }
     ensures recovers { (c : Content) → D.content disk.old ≡ Some c → (p : Play) (n : ℕ) (first : List (List ℕ))
         → (k : IsCutOf p n first) → p.plan.sizes ≡ geometry → IsLeftOf geometry first c
