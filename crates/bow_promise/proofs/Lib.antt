@@ -6,3 +6,4 @@ pub mod Rerunning
 pub mod Fulfilled
 pub mod Played
 pub mod Recovered
+pub mod Spaced

@@ -4,3 +4,4 @@ pub mod Played
 pub mod Promises
 pub mod Recoveries
 pub mod Recovering
+pub mod Space

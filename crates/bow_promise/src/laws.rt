@@ -1,5 +1,6 @@
 // What is promised.
 ghost use Rattle.bow_promise.specs.Played.{PlaysArePromised};
+ghost use Rattle.bow_promise.specs.Space.{SessionsFindNoSpaceTruly};
 ghost use Rattle.bow_promise.specs.Promises.{BootsAreReruns, CheckpointsStay, CommitsStay, CutsArePromised, CutsEndWell};
 
 use bow_disk::Disk;
@@ -23,6 +24,12 @@ pub fn promise_law()
     ensures checkpoint { CheckpointsStay }
     ensures committed { CommitsStay }
     ensures boots { BootsAreReruns }
+{}
+
+/// A session finds no space only where there is none: over any disk, whatever it replies, where an item tells of no space
+/// the device had nothing in hand at that turn, and no block was free for a write, or no two for a prepare.
+pub fn space_law()
+    ensures { SessionsFindNoSpaceTruly }
 {}
 
 /// What `play` leaves when it is cut, over a disk that was settled before it, is what the promises speak of: a cut of

@@ -6,5 +6,5 @@
 mod laws;
 mod recovering;
 
-pub use laws::{cut_law, promise_law};
+pub use laws::{cut_law, promise_law, space_law};
 pub use recovering::recover;
