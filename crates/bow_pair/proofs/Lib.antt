@@ -1,0 +1,5 @@
+pub mod Headers
+pub mod Members
+pub mod Agreeing
+pub mod Devices
+pub mod Stages

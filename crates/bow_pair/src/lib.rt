@@ -1,0 +1,10 @@
+//! Several devices that commit or roll back together: the boot that settles them by one kept decision, and what boots,
+//! cut and begun again, make of their images.
+#![tactic(auto)]
+
+mod boots;
+mod laws;
+mod settling;
+
+pub use boots::{PairBootFault, PairBooted, pair_boot};
+pub use laws::pair_boots_law;
