@@ -1,17 +1,14 @@
 -- Several devices: what agrees goes on agreeing over boots that are cut, and is settled so by one that ends well.
-use Rattle.std.proofs.Common.{◌≡◌, ◌⊎◌, inl, inr, ℕ, Bool, true, false, List, [], ◌∷◌, Option, Some, None, map, refl, sym, ap, ◌∙◌, subst}
+use Rattle.std.proofs.Common.{◌≡◌, inl, inr, ℕ, Bool, true, false, List, [], ◌∷◌, Option, Some, None, refl, sym, ap, ◌∙◌, subst}
 use Rattle.std.specs.Prelude.{slice_get}
 use Rattle.std.specs.Option.{option_map}
 use Rattle.std.proofs.lemmas.Option.{slice_get-map}
 use Rattle.bow_units.specs.declared.sizes.Geometry.{Geometry}
-use Rattle.vold_meta.specs.Decisions.{commit_text, text_of_decision}
-use Rattle.vold_commands.specs.Boots.{IsLogged}
-use Rattle.vold_commands.specs.BootLaws.{IsCheckpoint}
-use Rattle.bow_pair.specs.Joint.{Member, AreMembers, AgreesOn, Each, HasCurrent, HoldsSaved, IsForwardable, Settled}
-use Rattle.bow_pair.specs.Boots.{Answers, CutBoot, CutBoots, CutBy, CutFrom, EachOf, EndedBoot, WholeBy}
+use Rattle.vold_meta.specs.Decisions.{text_of_decision}
+use Rattle.bow_pair.specs.Joint.{Member, AreMembers, AgreesOn, Each, HasCurrent, HoldsSaved, IsForwardable, IsMember, Settled}
+use Rattle.bow_pair.specs.Boots.{Answers, CutBoot, CutBoots, CutBy, CutFrom, EndedBoot, WholeBy}
 use Rattle.bow_pair.specs.BootLaws.{AreSizesOf, BootsSettle, CutsStayAgreed, SettledAnswer}
 use Rattle.bow_pair.specs.declared.boots.PairBooted.{PairBooted}
-use Rattle.bow_pair.specs.declared.boots.PairBooted.TheVariants.{Forwarded, RolledBack, Plain}
 use Rattle.bow_pair.proofs.Members.{current_back, current_cut, forward_cut, forward_whole, held_back, held_cut}
 
 mapped : (o : Option Member) (g : Geometry) → option_map (λ (m : Member). m.sizes) o ≡ Some g → (m : Member) × (o ≡ Some m) × (m.sizes ≡ g)
@@ -28,14 +25,14 @@ is_commit text false e = absurd (cc e)
 
 module _ (members : List Member) (sizes : List Geometry) (all : AreMembers members) (fit : AreSizesOf members sizes) where
   -- a member has its sizes
-  size_of : (k : ℕ) (m : Member) → slice_get members k ≡ Some m → slice_get sizes k ≡ Some m.sizes
+  pub size_of : (k : ℕ) (m : Member) → slice_get members k ≡ Some m → slice_get sizes k ≡ Some m.sizes
   size_of k m at = ap (λ (gs : List Geometry). slice_get gs k) fit ∙ slice_get-map (λ (x : Member). x.sizes) members k ∙ ap (option_map (λ (x : Member). x.sizes)) at
 
-  member_of : (k : ℕ) (g : Geometry) → slice_get sizes k ≡ Some g → (m : Member) × (slice_get members k ≡ Some m) × (m.sizes ≡ g)
+  pub member_of : (k : ℕ) (g : Geometry) → slice_get sizes k ≡ Some g → (m : Member) × (slice_get members k ≡ Some m) × (m.sizes ≡ g)
   member_of k g at = mapped (slice_get members k) g (sym (slice_get-map (λ (x : Member). x.sizes) members k) ∙ ap (λ (gs : List Geometry). slice_get gs k) (sym fit) ∙ at)
 
   -- where each is as it was, or was cut
-  cut_commit : (text : List ℕ) (m : Member) (i j : List (List ℕ)) → IsCheckpoint m.sizes m.state.used m.state.saved → IsForwardable m i → CutFrom (Some text) m.sizes i j → IsForwardable m j
+  cut_commit : (text : List ℕ) (m : Member) (i j : List (List ℕ)) → IsMember m → IsForwardable m i → CutFrom (Some text) m.sizes i j → IsForwardable m j
   cut_commit text m i j is can (inl same) = subst (IsForwardable m) (sym same) can
   cut_commit text m i j is can (inr (committed, read, cut)) = forward_cut m is i j can (subst (λ (b : Bool). CutBy b m.sizes i j) (is_commit text committed read) cut)
 
@@ -60,18 +57,18 @@ module _ (members : List Member) (sizes : List Geometry) (all : AreMembers membe
   cut_agrees false i j None left agreed (inr (is, none, each)) = absurd (cc is)
 
   -- nothing is done
-  stays : (committed : Bool) (i j : ℕ → List (List ℕ)) (text left : Option (List ℕ)) → ((k : ℕ) → j k ≡ i k) → left ≡ text → AgreesOn committed text members i → AgreesOn committed left members j
+  pub stays : (committed : Bool) (i j : ℕ → List (List ℕ)) (text left : Option (List ℕ)) → ((k : ℕ) (m : Member) → slice_get members k ≡ Some m → j k ≡ i k) → left ≡ text → AgreesOn committed text members i → AgreesOn committed left members j
   stays committed i j text left same is agreed = subst (λ (l : Option (List ℕ)). AgreesOn committed l members j) (sym is) (by committed text agreed)
     where
       by : (b : Bool) (t : Option (List ℕ)) → AgreesOn b t members i → AgreesOn b t members j
-      by true (Some t) a = (a.0, λ k m at. subst (IsForwardable m) (sym (same k)) (a.1 k m at))
-      by true None a = λ k m at. subst (HasCurrent m) (sym (same k)) (a k m at)
+      by true (Some t) a = (a.0, λ k m at. subst (IsForwardable m) (sym (same k m at)) (a.1 k m at))
+      by true None a = λ k m at. subst (HasCurrent m) (sym (same k m at)) (a k m at)
       by false (Some t) a = absurd a
-      by false None a = λ k m at. subst (HoldsSaved m) (sym (same k)) (a k m at)
+      by false None a = λ k m at. subst (HoldsSaved m) (sym (same k m at)) (a k m at)
 
   -- any number of boots that are cut
   boots_agree : (committed : Bool) (boots : List ((ℕ → List (List ℕ)) × Option (List ℕ))) (i j : ℕ → List (List ℕ)) (text left : Option (List ℕ)) → AgreesOn committed text members i → CutBoots sizes boots i text j left → AgreesOn committed left members j
-  boots_agree committed [] i j text left agreed same = stays committed i j text left same.0 same.1 agreed
+  boots_agree committed [] i j text left agreed same = stays committed i j text left (λ k m at. same.0 k) same.1 agreed
   boots_agree committed (one ∷ rest) i j text left agreed cut = boots_agree committed rest one.0 j one.1 left (cut_agrees committed i one.0 text one.1 agreed cut.0) cut.1
 
   answers_back : (i : ℕ → List (List ℕ)) (answer : PairBooted) → Answers false sizes i answer → SettledAnswer false answer

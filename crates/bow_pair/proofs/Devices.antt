@@ -1,5 +1,5 @@
 -- Settling one device: what the answers of a restoration, and of giving up, say of it.
-use Rattle.std.proofs.Common.{◌≡◌, ◌⊎◌, inl, inr, ⊎_elim, ℕ, ◌≤◌, ◌<◌, Bool, true, false, List, Option, Some, None, Result, Ok, Err, refl, sym, ap, ◌∙◌, subst, arith}
+use Rattle.std.proofs.Common.{◌≡◌, ◌⊎◌, inl, inr, ⊎_elim, ℕ, ◌≤◌, Bool, true, false, List, Option, Some, None, Result, Ok, Err, refl, sym, subst, arith}
 use Rattle.std.specs.Prelude.{IfOk, IfErr}
 use Rattle.bow_units.specs.declared.sizes.Geometry.{Geometry}
 use Rattle.bow_units.specs.Blocks.{IsBlock}
@@ -20,10 +20,9 @@ use Rattle.vold_commands.specs.declared.boots.BootFault.{BootFault}
 use Rattle.vold_commands.specs.declared.boots.BootFault.TheVariants as vold
 use Rattle.bow_pair.specs.Boots.{WholeBy}
 use Rattle.bow_pair.specs.Joint.{IsCutOf}
-use Rattle.bow_pair.specs.Settling.{IsRefused, IsSettled, Logged, TellsLogged}
+use Rattle.bow_pair.specs.Settling.{IsRefused, IsSettled, TellsLogged}
 use Rattle.bow_pair.specs.Told.{IsForwardAnswer, IsRestoreAnswer}
 use Rattle.bow_pair.specs.declared.boots.PairBootFault.{PairBootFault}
-use Rattle.bow_pair.specs.declared.boots.PairBootFault.TheVariants.{BadChain, BadHeader, Reserved, DiskFault, NoMemory}
 use Rattle.bow_pair.proofs.Headers.{header_magic}
 
 -- what a restoration's answer is for a boot of one device

@@ -3,3 +3,4 @@ pub mod Members
 pub mod Agreeing
 pub mod Devices
 pub mod Stages
+pub mod Booting

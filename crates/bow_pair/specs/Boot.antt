@@ -1,19 +1,17 @@
 -- The call `pair_boot`: what it answers by the text and the disks, and what it leaves.
-use Rattle.std.specs.Prelude.{◌≡◌, ◌⊎◌, ℕ, Bool, true, false, List, slice_get, Option, None, Some, Result, Ok, Err, IfErr}
+use Rattle.std.specs.Prelude.{◌≡◌, ◌⊎◌, ℕ, Bool, true, List, slice_get, Option, None, Some, Result, Ok, Err}
 use Rattle.bow_units.specs.declared.sizes.Geometry.{Geometry}
 use Rattle.bow_units.specs.Causes.{Rose}
 use Rattle.bow_disk.specs.Disk.{Content}
-use Rattle.bow_disk.specs.Moments.{Tells}
 use Rattle.bow_restore.specs.Answers.{IsOfChain}
 use Rattle.bow_restore.specs.Replaying.{IsFlushed}
 use Rattle.bow_log.specs.Faults.{IsOfHeader}
 use Rattle.vold_meta.specs.Decisions.{text_of_decision}
 use Rattle.bow_pair.specs.Joint.{Member, AreMembers, Agreed, AgreesOn, Each, IsJointCut, Settled}
-use Rattle.bow_pair.specs.Boots.{CutBoot, EndedBoot}
+use Rattle.bow_pair.specs.Boots.{EndedBoot}
 use Rattle.bow_pair.specs.BootLaws.{AreSizesOf}
 use Rattle.bow_pair.specs.Settling.{EachDisk, IsSettled, StopsAt}
 use Rattle.bow_pair.specs.declared.boots.PairBooted.{PairBooted}
-use Rattle.bow_pair.specs.declared.boots.PairBooted.TheVariants.{Forwarded, RolledBack, Plain}
 use Rattle.bow_pair.specs.declared.boots.PairBootFault.{PairBootFault}
 use Rattle.bow_pair.specs.declared.boots.PairBootFault.TheVariants.{KeeperFault, BadDecision, BadChain, BadHeader, Reserved, DiskFault, NoMemory}
 

@@ -5,7 +5,7 @@ use Rattle.vold_meta.specs.Keeper.{Changes}
 use Rattle.bow_pair.specs.declared.boots.PairBooted.{PairBooted}
 use Rattle.bow_pair.specs.declared.boots.PairBooted.TheVariants.{Forwarded, RolledBack, Plain}
 use Rattle.bow_pair.specs.declared.boots.PairBootFault.{PairBootFault}
-use Rattle.bow_pair.specs.declared.boots.PairBootFault.TheVariants.{KeeperFault, BadDecision, BadChain, BadHeader, Reserved, DiskFault, NoMemory}
+use Rattle.bow_pair.specs.declared.boots.PairBootFault.TheVariants.{KeeperFault}
 
 -- by the decision, and by whether there was a log in some block 0
 abbrev pub EndsBy : Bool → Bool → Result PairBooted PairBootFault → Type 0

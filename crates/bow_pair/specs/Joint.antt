@@ -1,13 +1,11 @@
 -- Several devices that commit or roll back together: what a cut leaves of them and of the text that decides, and when
 -- these agree.
-use Rattle.std.specs.Prelude.{◌≡◌, ◌⊎◌, ℕ, Bool, true, false, List, slice_get, Option, None, Some}
+use Rattle.std.specs.Prelude.{◌≡◌, ℕ, Bool, true, false, List, slice_get, Option, None, Some}
 use Rattle.bow_units.specs.declared.sizes.Geometry.{Geometry}
 use Rattle.bow_flat.specs.Flat.{Flat}
-use Rattle.bow_log.specs.Generations.{Generation}
 use Rattle.bow_disk.specs.Disk.{Content, IsCrash, IsImage}
 use Rattle.bow_chain.specs.Contents.{contents_of}
-use Rattle.bow_chain.specs.Sound.{IsSound}
-use Rattle.bow_guard.specs.Standing.{Shows, forwarded}
+use Rattle.bow_guard.specs.Standing.{Forwardable, Shows}
 use Rattle.vold_meta.specs.Decisions.{commit_text}
 use Rattle.vold_commands.specs.Boots.{IsRolledBack}
 use Rattle.vold_commands.specs.BootLaws.{HasCheckpoint, IsCheckpoint, IsInPlace}
@@ -18,10 +16,15 @@ pub record Member : Type 0 where
   pub sizes : Geometry
   pub state : Flat
 
--- each has a checkpoint, in which block 0 is used and was saved without a magic
+-- It has a checkpoint, in which block 0 is used and was saved without a magic; and it was flushed, so that a cut may
+-- leave of each block what it may read as.
+pub record IsMember (m : Member) : Type 0 where
+  pub checkpoint : IsCheckpoint m.sizes m.state.used m.state.saved
+  pub flushed : m.state.pending ≡ m.state.current
+
+-- so has each
 abbrev pub AreMembers : List Member → Type 0
-AreMembers members = (k : ℕ) (m : Member) → slice_get members k ≡ Some m
-    → IsCheckpoint m.sizes m.state.used m.state.saved
+AreMembers members = (k : ℕ) (m : Member) → slice_get members k ≡ Some m → IsMember m
 
 -- so of each device and its image; the images stand by the devices' numbers
 abbrev pub Each : (Member → List (List ℕ) → Type 0) → List Member → (ℕ → List (List ℕ)) → Type 0
@@ -41,17 +44,11 @@ abbrev pub HasCurrent : Member → List (List ℕ) → Type 0
 HasCurrent m image = IsImage m.sizes.block_size m.sizes.blocks image
     × Shows m.sizes m.state.current (contents_of image)
 
--- the image is sound, and has the committed data once what its log's current block 0 holds is put into block 0
-pub record LeadsForward (m : Member) (image : List (List ℕ)) : Type 0 where
-  pub whole : IsImage m.sizes.block_size m.sizes.blocks image
-  pub log : Generation
-  pub older : List Generation
-  pub sound : IsSound m.sizes (contents_of image) log older
-  pub shows : Shows m.sizes m.state.current (forwarded (contents_of image) log)
-
--- the checkpoint can be given up: the image has the committed data, or leads to it
+-- the checkpoint can be given up: the image has the committed data, or is sound and has it once what its log's current
+-- block 0 holds is put into block 0
 abbrev pub IsForwardable : Member → List (List ℕ) → Type 0
-IsForwardable m image = HasCurrent m image ⊎ LeadsForward m image
+IsForwardable m image = IsImage m.sizes.block_size m.sizes.blocks image
+    × Forwardable m.sizes m.state (contents_of image)
 
 -- The devices' images and the kept text agree on committing, or on rolling back. Where the text is `commit`, each
 -- checkpoint can be given up; where there is no text, each image has the committed data, or each holds its checkpoint.

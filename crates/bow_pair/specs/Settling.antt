@@ -1,5 +1,5 @@
 -- Settling one device, and several one after the other: what is answered, and what is left.
-use Rattle.std.specs.Prelude.{◌≡◌, ◌⊎◌, ℕ, ◌<◌, ◌≤◌, Bool, true, false, List, slice_get, length, Option, None, Some, Result, Ok, Err}
+use Rattle.std.specs.Prelude.{◌≡◌, ◌⊎◌, ℕ, ◌<◌, Bool, true, false, List, slice_get, length, Option, None, Some}
 use Rattle.bow_units.specs.declared.sizes.Geometry.{Geometry}
 use Rattle.bow_units.specs.Causes.{Rose}
 use Rattle.bow_units.specs.Sizes.{IsValid}
@@ -38,8 +38,8 @@ abbrev pub IsLeft : {D : Type 0} → (D → Option Content) → Bool → Geometr
 IsLeft content committed g old new = (c : Content) → content old ≡ Some c → (image : List (List ℕ))
     → IsCutOf content new image → IsCrash c.candidates image ⊎ CutBy committed g c.now image
 
--- Why a device was not settled, and what was then left of it: a fault of its chain, its header or its current block 0 is
--- the one that it has, and nothing was changed; a fault of the disk comes only where its count rose.
+-- Why a device was not settled, and what was then left of it: a fault of its chain, its header or its current block 0
+-- is the one that it has, and nothing was changed; a fault of the disk comes only where its count rose.
 abbrev pub IsRefused : {D : Type 0} → (D → Option Content) → (D → ℕ) → Bool → ℕ → Geometry → D → D → PairBootFault
     → Type 0
 IsRefused content faults committed device g old new (BadChain at fault) =
@@ -64,8 +64,8 @@ EachDisk {D} R sizes old new = (k : ℕ) (g : Geometry) (before now : D) → sli
     → slice_get old k ≡ Some before → slice_get new k ≡ Some now → R k g before now
 
 -- Settling stopped at a device: those before it were settled whole, those behind it were not touched, and this is why.
-pub record StopsAt {D : Type 0} (content : D → Option Content) (faults : D → ℕ) (committed : Bool) (sizes : List Geometry)
-    (old new : List D) (fault : PairBootFault) : Type 0 where
+pub record StopsAt {D : Type 0} (content : D → Option Content) (faults : D → ℕ) (committed : Bool)
+    (sizes : List Geometry) (old new : List D) (fault : PairBootFault) : Type 0 where
   pub device : ℕ
   pub on : device < length sizes
   pub before : EachDisk (λ k g a b. k < device → IsSettled content committed g a b) sizes old new

@@ -48,7 +48,11 @@ pub enum PairBootFault {
 }
 
 // Ends a boot whose devices are settled, by the decision and by whether there was a log in some block 0.
-fn end<K: Keeper>(keeper: &mut K, committed: bool, logged: bool) -> Result<PairBooted, PairBootFault>
+fn end<K: Keeper>(
+    keeper: &mut K,
+    committed: bool,
+    logged: bool,
+) -> Result<PairBooted, PairBootFault>
     ensures answer { EndsBy committed logged result }
     ensures step { Goes (KeepsBy committed result) (K.kept keeper.old) (K.kept keeper.new) }
     ensures cause { EndIsCaused (K.faults keeper.old) (K.faults keeper.new) result }
@@ -66,14 +70,14 @@ fn end<K: Keeper>(keeper: &mut K, committed: bool, logged: bool) -> Result<PairB
     }
 }
 
-/// Settles several devices after a cut, by the one decision that is kept: where it is to commit, each checkpoint is given
-/// up, in the order of the devices, and then the text is removed; where no text is kept, each device is restored. It
-/// stops at the first fault and makes no further call. However often it is cut or fails, nothing is lost: the devices and
-/// the text go on agreeing, and the next call goes on from what it left.
+/// Settles several devices after a cut, by the one decision that is kept: where it is to commit, each checkpoint is
+/// given up, in the order of the devices, and then the text is removed; where no text is kept, each device is restored.
+/// It stops at the first fault and makes no further call. However often it is cut or fails, nothing is lost: the
+/// devices and the text go on agreeing, and the next call goes on from what it left.
 ///
-/// `Forwarded` comes exactly where the decision was kept, `Plain` exactly where no text was kept and no block 0 began with
-/// a magic, and `RolledBack` else. `BadDecision` comes exactly where another text is kept, and then nothing has changed.
-/// `BadChain`, `BadHeader` and `Reserved` name the first device that has that fault, whose image is unchanged.
+/// `Forwarded` comes exactly where the decision was kept, `Plain` exactly where no text was kept and no block 0 began
+/// with a magic, and `RolledBack` else. `BadDecision` comes exactly where another text is kept, and then nothing has
+/// changed. `BadChain`, `BadHeader` and `Reserved` name the first device that has that fault, whose image is unchanged.
 /// `KeeperFault` and `DiskFault` come only where that count of faults rose.
 ///
 /// Condition: the geometries are valid and the disks', as many as disks, and each has a number in `u32`.
@@ -89,7 +93,7 @@ pub fn pair_boot<D: Disk, K: Keeper>(
     requires sizes { AreStated D.stated geometries.now disks.old }
     // Over any disks and keeper: causes.
     ensures cause { IsCaused (K.faults keeper.old) (K.faults keeper.new) D.faults disks.old disks.new result }
-    // Over those that tell what they hold: what it answers and leaves, and that a call that failed is a boot that was cut.
+    // Over those that tell what they hold: what it answers and leaves, and that one that failed is a boot that was cut.
     ensures ends { (told : ℕ → Content) → AreTold D.content disks.old told → (text left : Option (List ℕ))
         → K.kept keeper.old ≡ Some text → K.kept keeper.new ≡ Some left
         → IfOk result (Ends D.content geometries.now disks.new told text left) }

@@ -1,4 +1,4 @@
-use Rattle.std.proofs.Common.{◌≡◌, Some, ⊎_elim, inl, inr, arith}
+use Rattle.std.proofs.Common.{◌≡◌, Some, ⊎_elim, inl, inr}
 use Rattle.bow_disk.specs.Disk.{Content}
 use Rattle.bow_disk.specs.Shapes.{crash_image, now_image}
 use Rattle.bow_restore.proofs.Told.{Fits}

@@ -1,8 +1,6 @@
-use Rattle.std.proofs.Common.{◌≡◌, ℕ, ◌+◌, ◌<◌, Bool, Some, Ok, Err, set, get_or, length, refl, sym, ap, ◌∙◌, subst, arith}
-use Rattle.std.specs.Prelude.{slice_get, IfOk, IfErr, ◌||◌}
+use Rattle.std.proofs.Common.{◌+◌, set, get_or, ◌∙◌, subst, arith}
 use Rattle.std.proofs.lemmas.Option.{slice_get-get_or}
 use Rattle.bow_units.specs.declared.sizes.Geometry.{Geometry}
-use Rattle.bow_pair.specs.Settling.{IsRefused, IsSettled, TellsLogged}
 use Rattle.bow_pair.proofs.Stages.{Kept, SoFar, Step, kept_put, or_false, or_true, so_far_first, so_far_logged, so_far_more, so_far_settled, so_far_stops, step_of}
 use Rattle.bow_pair.proofs.settling.settle_each.Given.{Over}
 use Rattle.bow_pair.proofs.settling.settle_each.Goals as goal
