@@ -18,9 +18,7 @@ use Rattle.bow_core.specs.Commands.{two_picked, both_first}
 use Rattle.bow_machine.specs.MemoryIsSound.{IsTable}
 use Rattle.bow_machine.proofs.Tables.{length_with, kind_in, kind_out, holds_cases}
 use Rattle.bow_machine.proofs.Commands.{picked_free}
-
-same_kinds : (xs ys : List Kind) → length xs ≡ length ys → ((b : ℕ) → b < length xs → kind_at xs b ≡ kind_at ys b) → xs ≡ ys
-same_kinds xs ys sizes each = same_lists xs ys sizes (λ b d inside. get_or_default xs b d Unchanged inside ∙ each b inside ∙ get_or_default ys b Unchanged d (omega (arith, sizes, inside)))
+use Rattle.bow_core.proofs.Saved.{same_kinds}
 
 -- a free block that was taken and given back is as it was
 pub given_back : (table : List Kind) (e : Extent) → e.count ≡ 1 → e.first < length table → kind_at table e.first ≡ Free → with_kind (with_kind table e Backup) e Free ≡ table

@@ -10,7 +10,7 @@ use Rattle.bow_units.specs.declared.requests.Phase.TheVariants.{Trim, Arming, Ch
 use Rattle.bow_units.specs.declared.statuses.Kind.{Kind}
 use Rattle.bow_units.specs.declared.statuses.Kind.TheVariants.{Sector0, Current, Unchanged, Free, Changed, Backup, Saved}
 use Rattle.bow_ranges.specs.Kinds.{kind_at, holds, with_kind, reclaimed, kind_reclaimed, is_changed}
-use Rattle.bow_machine.specs.Memory.{kind_written}
+use Rattle.bow_machine.specs.Memory.{kind_written, kinds_written}
 use Rattle.bow_machine.proofs.Tables.{length_with, length_unsaved, kind_in, kind_out, kind_unsaved, holds_cases}
 use Rattle.bow_guard.specs.Device.{unsaved}
 use Rattle.bow_ranges.proofs.KindLists.{kind_at-reclaimed}
@@ -108,7 +108,7 @@ not_saved Free other = refl
 not_saved Changed other = refl
 not_saved Backup other = refl
 
-same_kinds : (xs ys : List Kind) → length xs ≡ length ys → ((b : ℕ) → b < length xs → kind_at xs b ≡ kind_at ys b) → xs ≡ ys
+pub same_kinds : (xs ys : List Kind) → length xs ≡ length ys → ((b : ℕ) → b < length xs → kind_at xs b ≡ kind_at ys b) → xs ≡ ys
 same_kinds xs ys sizes each = same_lists xs ys sizes (λ b d inside. get_or_default xs b d Unchanged inside ∙ each b inside ∙ get_or_default ys b Unchanged d (omega (arith, sizes, inside)))
 
 -- where nothing was saved, the blocks that are saved now are these
@@ -162,3 +162,17 @@ fresh_saved n table new zeroth none fresh set at_0 one first count enough =
       inside = omega (arith, first, count);
       each = λ b within. all b (omega (arith, within, long)) ∙ sym (empty_extent none count b);
     })
+
+-- blocks that are given the kind that they have stay as they are
+pub kept_kind : (table : List Kind) (e : Extent) (kind : Kind) → e.first + e.count ≤ length table → ((b : ℕ) → e.first ≤ b → b < e.first + e.count → kind_at table b ≡ kind) → with_kind table e kind ≡ table
+kept_kind table e kind inside same = same_kinds (with_kind table e kind) table (length_with table e kind inside) (λ b _. elim (holds_cases e b) [
+  | inl in_it ↦ kind_in table e kind b inside in_it.0 in_it.1 ∙ sym (same b in_it.0 in_it.1)
+  | inr out ↦ kind_out table e kind b inside out.0
+])
+
+-- so with a write of a block that keeps its kind
+pub written_same : (phase : Phase) (table : List Kind) (block : ℕ) → block < length table → kind_written phase (kind_at table block) ≡ kind_at table block → kinds_written phase table block ≡ table
+written_same phase table block within same = elim (block == 0) as (λ t. cond t table (with_kind table (record { first = block; count = 1 }) (kind_written phase (kind_at table block))) ≡ table) [
+  | true ↦ refl
+  | false ↦ ap (with_kind table (record { first = block; count = 1 })) same ∙ kept_kind table (record { first = block; count = 1 }) (kind_at table block) (omega (arith, within)) (λ b low high. ap (kind_at table) (omega (arith, low, high)))
+]

@@ -258,8 +258,12 @@ impl<R: Ranges> State<R> {
               self.old.memory.phase self.old.memory.kinds block;
         }) }
     {
-        if block > 0 {
-            let kind = kind_written(self.phase, self.table.kind(block));
+        if block == 0 {
+            return;
+        }
+        let before = self.table.kind(block);
+        let kind = kind_written(self.phase, before);
+        if kind != before {
             self.table.set(run(block, 1), kind);
         }
     }
