@@ -75,7 +75,7 @@ pub levels : (a b : ℕ) → (a == b) ≡ true → a ≡ b
 levels a b e = grind arith
 
 -- a store, by its parts and its kinds
-abbrev store : List Part → List Kind → Store
+abbrev pub store : List Part → List Kind → Store
 store parts kinds = (parts, kinds)
 
 pub both : {a c : List Part} {b d : List Kind} → a ≡ c → b ≡ d → store a b ≡ store c d
