@@ -88,7 +88,7 @@ module _ {D : Type 0} (stated : D → Option Geometry) (content : D → Option C
   first = b.first
 
   pub ran_on : IsRunOn stated content moment left faults old s
-  ran_on = record { first = b.first; turns = k.turns; fresh = b.fresh; opened = b.opened; run = k.run }
+  ran_on = record { first = b.first; turns = k.turns; fresh = b.fresh; opened = b.opened; sizes = k.sizes; run = k.run }
 
   pub sizes_told : (stated s.core.disk ≡ Some s.core.geometry) × IsValid s.core.geometry
   sizes_told = ((k.run).sizes, subst IsValid k.sizes b.valid)

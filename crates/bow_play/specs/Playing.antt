@@ -25,14 +25,15 @@ pub record IsFresh {D : Type 0} (v : View D) : Type 0 where
   pub admitted : v.admitted ≡ 0
   pub calls : v.calls ≡ 2
 
--- The session is a run over a device that was just opened on this disk, whose image the opening kept: since then it
--- made turns, and all that it keeps follows from them.
+-- The session is a run over a device that was just opened on this disk, whose image the opening kept, of the same
+-- sizes: since then it made turns, and all that it keeps follows from them.
 pub record IsRunOn {D : Type 0} (stated : D → Option Geometry) (content : D → Option Content) (moment : D → ℕ)
     (left : D → ℕ → List (List ℕ) → Type 0) (faults : D → ℕ) (old : D) (s : Run D) : Type 0 where
   pub first : View D
   pub turns : List Turned
   pub fresh : IsFresh first
   pub opened : KeepsImage stated content moment left faults old first.disk
+  pub sizes : first.geometry ≡ s.core.geometry
   pub run : IsRun stated content faults first turns s
 
 -- and each turn is of the actor who was drawn for it, by this number

@@ -1,5 +1,6 @@
 -- What a restoration leaves of what a cut play left.
-use Rattle.std.proofs.Common.{◌≡◌, inl, inr, ⊎_elim, ℕ, ◌<◌, ◌≤◌, Bool, List, [], ◌∷◌, ◌++◌, Option, Some, arith, refl, sym, ◌∙◌, subst}
+use Rattle.std.proofs.Common.{◌≡◌, inl, inr, ⊎_elim, ℕ, ◌<◌, ◌≤◌, Bool, List, [], ◌∷◌, ◌++◌, Option, Some, arith, refl, sym, ◌∙◌, subst, Result, Ok, Err}
+use Rattle.std.specs.Prelude.{IsOk}
 use Rattle.bow_units.specs.declared.requests.Phase.{Phase}
 use Rattle.bow_units.specs.declared.requests.Phase.TheVariants.{Trim, Arming, Checkpoint, Deciding, Committed}
 use Rattle.bow_units.specs.declared.sizes.Geometry.{Geometry}
@@ -19,8 +20,9 @@ use Rattle.bow_restore.specs.declared.answers.Restored.TheVariants.{Nothing, Don
 use Rattle.bow_return.specs.Laws.{ComesBack}
 use Rattle.vold_commands.proofs.Backing.{magic_or_plain}
 use Rattle.vold_commands.specs.Boots.{EndedBoot}
-use Rattle.vold_commands.specs.Boot.{Whole}
+use Rattle.vold_commands.specs.Boot.{BootLeaves, Whole}
 use Rattle.vold_commands.specs.declared.boots.Booted.{Booted}
+use Rattle.vold_commands.specs.declared.boots.BootFault.{BootFault}
 use Rattle.bow_promise.specs.Cutting.{Play, IsCutOf, EndsAs}
 use Rattle.bow_promise.specs.Promises.{IsFulfilled}
 use Rattle.bow_promise.specs.Recoveries.{Recoveries}
@@ -141,6 +143,19 @@ module _ {D : Type 0} (stated : D → Option Geometry) (content : D → Option C
       cuts = cuts_rerun first is_left adds;
       leaves = left_again first is_left adds;
     }
+
+    pub boot_recovers : {U : Type 0} (kept_of : U → Option (Option (List ℕ))) (keeper : U) (kept : Option (List ℕ)) (r : Result Booted BootFault)
+        → BootLeaves g content kept_of new keeper c kept r → AddsCuts moment left (PassesOn g c.now) old new
+        → IsRecovered content moment left g p n first k (IsOk r) old new
+    boot_recovers kept_of keeper kept r leaves adds = record {
+      fulfils = by r leaves;
+      cuts = cuts_rerun first is_left adds;
+      leaves = left_again first is_left adds;
+    }
+      where
+        by : (r : Result Booted BootFault) → BootLeaves g content kept_of new keeper c kept r → IsOk r → Tells content (λ d. IsFlushed d × IsFulfilled p n first k d.now) new
+        by (Ok answer) (l, is, ended) well = boot_fulfils kept l answer ended
+        by (Err fault) left_so well = absurd (cc well)
 
     -- ----------------------------------------------------------------------------------------------------------------
     -- By the phase of the state that the cut of the play left.

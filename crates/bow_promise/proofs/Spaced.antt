@@ -10,7 +10,11 @@ use Rattle.bow_flat.specs.Flat.{Event}
 use Rattle.bow_queue.specs.Extents.{is_on_device}
 use Rattle.bow_queue.specs.declared.tickets.Ticket.{Ticket}
 use Rattle.bow_machine.specs.Calls.{Reply}
+use Rattle.bow_disk.specs.Disk.{Content}
+use Rattle.bow_machine.specs.Laws.{opened}
 use Rattle.bow_machine.specs.Memory.{Memory}
+use Rattle.bow_machine.specs.MemoryIsSound.{MemoryIsSound}
+use Rattle.bow_machine.proofs.SoundOpenings.{opening_is_sound}
 use Rattle.bow_machine.specs.MemoryLaws.{CanHaveIt}
 use Rattle.bow_machine.specs.Requests.{Request, is_reserved, refusal, request_of, unsettled}
 use Rattle.bow_machine.specs.Steps.{Told, Idle, Moved, Wrote, Got, Answered, call_of}
@@ -22,7 +26,9 @@ use Rattle.bow_history.specs.SoundSessions.{IsSoundSession}
 use Rattle.bow_history.proofs.Lists.{one_of}
 use Rattle.bow_history.proofs.Turns.{for_write}
 use Rattle.bow_history.proofs.SoundTurns as told
-use Rattle.bow_promise.specs.Space.{HasNoSpaceFor, TellsNoSpace, SessionsFindNoSpaceTruly}
+use Rattle.bow_session.specs.Runs.{begun_over}
+use Rattle.bow_session.specs.Sessions.{plan_in}
+use Rattle.bow_promise.specs.Space.{HasNoSpaceFor, TellsNoSpace, PlaysFindNoSpaceTruly, SessionsFindNoSpaceTruly}
 
 -- no test refuses for want of space
 unsettled_other : (phase : Phase) (n : ℕ) → unsettled phase ≡ Some (outcomes.NoSpace n) → ⊥
@@ -127,3 +133,12 @@ pub sessions_find_no_space_truly : SessionsFindNoSpaceTruly
 sessions_find_no_space_truly plan s [] rise k may = tt
 sessions_find_no_space_truly plan s (turn ∷ turns) rise k may =
     (turn_none plan s k turn may.0, sessions_find_no_space_truly plan (after_turn plan s turn) turns rise (told.turns_keep_sound plan s turn rise k may.0) may.1)
+
+-- a play's device is opened over sound memory
+pub plays_find_no_space_truly : {D : Type 0} (stated : D → Option Geometry) (content : D → Option Content) (moment : D → ℕ) (left : D → ℕ → List (List ℕ) → Type 0) (faults : D → ℕ) → PlaysFindNoSpaceTruly stated content moment left faults
+plays_find_no_space_truly stated content moment left faults old s valid ran =
+    let session = (ran.run).session in
+    let memory : (ran.first).memory ≡ opened s.core.geometry.blocks = (ran.fresh).memory ∙ ap (λ (g : Geometry). opened g.blocks) ran.sizes in
+    let sound : MemoryIsSound s.core.geometry (ran.first).memory = subst (MemoryIsSound s.core.geometry) (sym memory) (opening_is_sound s.core.geometry valid) in
+    let begins = told.beginning_is_sound (plan_in s) (ran.first).memory (ran.first).admitted sound (ap (λ (m : Memory). m.requests) memory) in
+    sessions_find_no_space_truly (plan_in s) (begun_over ran.first) ran.turns session.rise begins session.may

@@ -25,8 +25,8 @@ abbrev pub IsLeftOf : Geometry → List (List ℕ) → Content → Type 0
 IsLeftOf g first c = (image : List (List ℕ)) → IsCrash c.candidates image → IsRerun g first image
 
 -- A call that restores was made on a disk that restorations left of the first image, which a cut of a play left. If it
--- ended well, what is promised of that cut is fulfilled, and all is flushed. Whatever a cut of the call leaves, and what
--- it leaves itself, is again left of the first image: so the next one goes on from there.
+-- ended well, what is promised of that cut is fulfilled, and all is flushed. Whatever a cut of the call leaves, and
+-- what it leaves itself, is again left of the first image: so the next one goes on from there.
 pub record IsRecovered {D : Type 0} (content : D → Option Content) (moment : D → ℕ) (left : D → ℕ → List (List ℕ)
     → Type 0) (g : Geometry) (p : Play) (n : ℕ) (first : List (List ℕ)) (cut : IsCutOf p n first) (ended_well : Type 0)
     (old new : D) :

@@ -1,6 +1,6 @@
 // What is promised.
 ghost use Rattle.bow_promise.specs.Played.{PlaysArePromised};
-ghost use Rattle.bow_promise.specs.Space.{SessionsFindNoSpaceTruly};
+ghost use Rattle.bow_promise.specs.Space.{PlaysFindNoSpaceTruly, SessionsFindNoSpaceTruly};
 ghost use Rattle.bow_promise.specs.Promises.{BootsAreReruns, CheckpointsStay, CommitsStay, CutsArePromised, CutsEndWell};
 
 use bow_disk::Disk;
@@ -26,15 +26,16 @@ pub fn promise_law()
     ensures boots { BootsAreReruns }
 {}
 
-/// A session finds no space only where there is none: over any disk, whatever it replies, where an item tells of no space
-/// the device had nothing in hand at that turn, and no block was free for a write, or no two for a prepare.
-pub fn space_law()
-    ensures { SessionsFindNoSpaceTruly }
+/// A session finds no space only where there is none: over any disk, whatever it replies, where an item tells of no
+/// space the device had nothing in hand at that turn, and no block was free for a write, or no two for a prepare.
+pub fn space_law<D: Disk>()
+    ensures sessions { SessionsFindNoSpaceTruly }
+    ensures plays { PlaysFindNoSpaceTruly D.stated D.content D.moment D.left_since D.faults }
 {}
 
 /// What `play` leaves when it is cut, over a disk that was settled before it, is what the promises speak of: a cut of
-/// the play that its session's journal tells, since the moment of an item one that has the item, and at the end one that
-/// has all.
+/// the play that its session's journal tells, since the moment of an item one that has the item, and at the end one
+/// that has all.
 pub fn cut_law<D: Disk>()
     ensures { PlaysArePromised D.stated D.content D.moment D.left_since }
 {}

@@ -12,10 +12,10 @@ use bow_units::Geometry;
 use std::alloc::Global;
 
 /// Recovers what a play left that was cut anywhere: `restore` without a limit, also where restorations and boots were
-/// cut before, any number of them, each anywhere. Where it ends well, with `Done` or `Nothing`, what is promised of that
-/// cut is fulfilled, and all is flushed: the checkpoint is back, or there was nothing to restore, and what was flushed
-/// and not changed since is as it might have been read then. And whatever a cut of this call leaves is what such a
-/// restoration leaves: the next one goes on from there.
+/// cut before, any number of them, each anywhere. Where it ends well, with `Done` or `Nothing`, what is promised of
+/// that cut is fulfilled, and all is flushed: the checkpoint is back, or there was nothing to restore, and what was
+/// flushed and not changed since is as it might have been read then. And whatever a cut of this call leaves is what
+/// such a restoration leaves: the next one goes on from there.
 ///
 /// Condition: the geometry is valid and the disk's.
 pub fn recover<D: Disk>(alloc: Global, disk: &mut D, geometry: Geometry) -> Restored

@@ -28,7 +28,7 @@ returns-clause-played g c =
     let end = c.finish.ensures in
     let run = end.run b.first [] b.run in
     record {
-      ran = record { first = b.first; turns = run.0; fresh = b.fresh; opened = b.opened; run = (run.2).run };
+      ran = record { first = b.first; turns = run.0; fresh = b.fresh; opened = b.opened; sizes = (end.loaded b.first b.loaded_over).sizes; run = (run.2).run };
       drawn = drawn_from g.D.Disk.stated g.D.Disk.content g.D.Disk.faults c.args.number b.first c.in-Ok.session run.0 c.finish.new.self b.run end.script run.1;
     }
 
