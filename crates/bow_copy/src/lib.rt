@@ -8,6 +8,3 @@ mod jobs;
 
 pub use batches::{Batch, acts_of_fitting_blocks_law, done, next};
 pub use jobs::{Act, After, Job};
-
-#[cfg(test)]
-mod tests;

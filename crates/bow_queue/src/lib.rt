@@ -7,8 +7,6 @@ mod extents;
 mod iter;
 mod queue;
 mod requests;
-#[cfg(test)]
-mod tests;
 mod tickets;
 mod wanted;
 
