@@ -29,6 +29,7 @@ unfoldable pub generation_text : ℕ → Magic → ℕ → ℕ → List ℕ
 generation_text sequence magic sector0 entries = codes "generation " ++ decimal sequence ++ codes " magic "
     ++ magic_text magic ++ codes " sector0 " ++ decimal sector0 ++ codes " entries " ++ decimal entries ++ codes "\n"
 
+-- the line of this log
 abbrev pub generation_line : Fields → List ℕ
 generation_line log = generation_text log.sequence log.magic log.sector0 (length log.entries)
 
