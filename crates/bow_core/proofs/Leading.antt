@@ -52,7 +52,9 @@ use Rattle.bow_machine.specs.MemoryIsSound.{LogIsHeld}
 use Rattle.bow_machine.specs.MemoryLaws.{CanHaveIt}
 use Rattle.bow_machine.specs.Tasks.{task_of}
 use Rattle.bow_machine.proofs.SoundTies.{saved_is_next, touched_is_left, covered_stays_touched, logs_go_on, arming_is_untouched, checkpoint_follows}
+use Rattle.bow_core.specs.Refusals.{RefusesExactly}
 use Rattle.bow_core.specs.Room.{FindsNoSpace}
+use Rattle.bow_core.proofs.Refusing.{refused_exactly}
 use Rattle.bow_core.specs.Ties.{IsTied}
 use Rattle.bow_core.proofs.Spaces.{finds_none}
 
@@ -219,6 +221,11 @@ module _ {D : Type 0} (stated : D → Option Geometry) (content : D → Option C
   step_space r =
       let both = finds_none g m step.reply opened.sound turn r can in
       (λ tells. both.0 (sym step.told ∙ tells), λ none. step.told ∙ both.1 none)
+
+  pub step_refuses : RefusesExactly g m turn tells_so
+  step_refuses r outcome waits is =
+      let both = refused_exactly g m step.reply opened.sound r outcome waits is turn in
+      (λ tells. both.0 (sym step.told ∙ tells), λ refuses. step.told ∙ both.1 refuses)
 
   pub step_tied : IsTied g m new.memory
   step_tied = subst (IsTied g m) (sym step.memory) (record {

@@ -14,4 +14,5 @@ pub mod Openings
 pub mod Forward
 pub mod Further
 pub mod Room
+pub mod Refusals
 pub mod Ties

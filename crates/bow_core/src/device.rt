@@ -8,6 +8,7 @@ ghost use Rattle.bow_core.specs.Forward.{IsForward, StaysForward};
 ghost use Rattle.bow_core.specs.Further.{BehindIn, IsReadable, KeepsOn, LedIn};
 ghost use Rattle.bow_core.specs.Openings.{KeepsImage, LeftBy, OpenCause};
 ghost use Rattle.bow_core.specs.Ports.{Makes};
+ghost use Rattle.bow_core.specs.Refusals.{RefusesExactly};
 ghost use Rattle.bow_core.specs.Room.{FindsNoSpace, IsExactRoom};
 ghost use Rattle.bow_core.specs.Standing.{StandsIn, Leads};
 ghost use Rattle.bow_core.specs.Steps.{Does, FailureIsTold, IsInOrder, IsStep};
@@ -277,7 +278,8 @@ impl<D: Disk, R: Ranges> Core<D, R> {
     /// One step, with at most one call on the disk: one step of the machine. It is `Idle` exactly where the table of
     /// readiness says that the turn is not ready, and then nothing changes. A request is answered `DiskFault` only
     /// where the disk's count of faults rose in this step, and `NoSpace` exactly where the turn finds none: where no
-    /// block is free for the worker's head, or no two for a prepare. The step leads from each flat state for which the
+    /// block is free for the worker's head, or no two for a prepare. It is refused exactly where it fails a test at its
+    /// own turn, or is a command that has no place in this phase. The step leads from each flat state for which the
     /// device stood to one for which it stands, by events that may be, and what a cut leaves meanwhile was left before
     /// or stands for it. Where a call of the step failed, a fault is told. From a flush in `Checkpoint` that is answered
     /// done, before which no call has failed, to the end of a commit, with no steps but those of the commands between,
@@ -291,6 +293,7 @@ impl<D: Disk, R: Ranges> Core<D, R> {
         ensures faults { D.faults self.old.disk ≤ D.faults self.new.disk }
         ensures space { (r : Request) → (told_of result ≡ Answered r.ticket r.op (NoSpace r.done)) ↔ FindsNoSpace
             self.old.geometry self.old.memory turn r }
+        ensures refused { RefusesExactly self.old.geometry self.old.memory turn result }
         ensures tied { IsTied self.old.geometry self.old.memory self.new.memory }
         ensures calls { (self.old.calls ≤ self.new.calls) × (self.new.calls ≤ self.old.calls + 1) }
         ensures opened { IsOpened D.stated self.new }

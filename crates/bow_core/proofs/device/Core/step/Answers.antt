@@ -3,7 +3,7 @@ use Rattle.std.proofs.Common.{subst}
 use Rattle.bow_core.specs.Steps.{IsStep}
 use Rattle.bow_core.specs.Views.{View, view_of, IsOpened}
 use Rattle.bow_core.proofs.GivenOut.{turn_opened}
-use Rattle.bow_core.proofs.Leading.{step_cause, unready_idle, idle_unready, idle_same, one_call, step_leads, step_keeps_on, step_space, step_tied, failure_told}
+use Rattle.bow_core.proofs.Leading.{step_cause, unready_idle, idle_unready, idle_same, one_call, step_leads, step_keeps_on, step_space, step_tied, step_refuses, failure_told}
 use Rattle.bow_core.proofs.Forward.{step_flushes, step_forward}
 use Rattle.bow_core.proofs.Stepped.{stepped}
 use Rattle.bow_core.proofs.device.Core.step.Given.{Over}
@@ -67,3 +67,6 @@ returns-clause-flushed g c = let k = (goal.at.returns-clause-flushed g c).After-
 
 pub returns-clause-forward : goal.returns-clause-forward
 returns-clause-forward g c = let k = (goal.at.returns-clause-forward g c).After-step_turn in step_forward g.D.Disk.stated g.D.Disk.content g.D.Disk.moment g.D.Disk.left_since g.D.Disk.faults c.args.self.now c.args.turn c.step_turn.result (new g k) (opened g k) (step g k) g.met.D.Disk.shaped
+
+pub returns-clause-refused : goal.returns-clause-refused
+returns-clause-refused g c = let k = (goal.at.returns-clause-refused g c).After-step_turn in step_refuses g.D.Disk.stated g.D.Disk.content g.D.Disk.moment g.D.Disk.left_since g.D.Disk.faults c.args.self.now c.args.turn c.step_turn.result (new g k) (opened g k) (step g k)
