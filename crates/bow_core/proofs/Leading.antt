@@ -222,9 +222,9 @@ module _ {D : Type 0} (stated : D → Option Geometry) (content : D → Option C
       let both = finds_none g m step.reply opened.sound turn r can in
       (λ tells. both.0 (sym step.told ∙ tells), λ none. step.told ∙ both.1 none)
 
-  pub step_refuses : RefusesExactly g m turn tells_so
+  pub step_refuses : RefusesExactly g m (turn_of turn) tells_so
   step_refuses r outcome waits is =
-      let both = refused_exactly g m step.reply opened.sound r outcome waits is turn in
+      let both = refused_exactly g m step.reply opened.sound r outcome waits is (turn_of turn) in
       (λ tells. both.0 (sym step.told ∙ tells), λ refuses. step.told ∙ both.1 refuses)
 
   pub step_tied : IsTied g m new.memory

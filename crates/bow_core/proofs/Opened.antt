@@ -165,6 +165,7 @@ module _ {D : Type 0} (stated : D → Option Geometry) (content : D → Option C
       sizes = made.sizes;
       kept = keeps_call FlushCall Failed a b before now tt sizes made;
       settled = tt;
+      done = tt;
       clock = λ c is. let tick = one_tick FlushCall Failed a b before now c is made in omega (arith, tick);
       cause = made.cause;
     }
@@ -187,6 +188,7 @@ module _ {D : Type 0} (stated : D → Option Geometry) (content : D → Option C
         sizes = second.sizes;
         kept = kept;
         settled = tt;
+        done = tt;
         clock = λ c told. let tick = ticks c told in omega (arith, tick);
         cause = rose_before (faults_of a) (faults_of b) (faults_of d) first.later (subst (λ r. HasFault (Some (ReadCall 0)) r (faults_of b) (faults_of d)) is second.cause);
       }
@@ -196,6 +198,7 @@ module _ {D : Type 0} (stated : D → Option Geometry) (content : D → Option C
         sizes = second.sizes;
         kept = kept;
         settled = tt;
+        done = tt;
         clock = λ c told. let tick = ticks c told in omega (arith, tick);
         cause = found (content b) (content d) (subst (λ r. Goes (DoesCall (ReadCall 0) r) (content b) (content d)) is second.disk);
       }
@@ -211,6 +214,15 @@ module _ {D : Type 0} (stated : D → Option Geometry) (content : D → Option C
         sizes = second.sizes;
         kept = kept;
         settled = go (content a) refl (content b) (content d) first.disk (subst (λ r. Goes (DoesCall (ReadCall 0) r) (content b) (content d)) is second.disk);
+        done = record {
+          between = b;
+          block = v;
+          first = before;
+          second = middle;
+          third = now;
+          flush = first;
+          read = subst (λ r. Makes stated content moment left faults_of g (Some (ReadCall 0)) r b d middle now) is second;
+        };
         clock = λ c told. let tick = ticks c told in omega (arith, tick);
         cause = tt;
       }

@@ -1,11 +1,10 @@
 -- A table of which one block was taken, and given back.
 use Rattle.std.proofs.Common.{ℕ, ◌+◌, ◌≡◌, ◌<◌, ◌≤◌, List, length, Option, Some, refl, sym, ap, ◌∙◌, arith, inl, inr, Bool, true, false, cond, None}
 use Rattle.std.specs.Prelude.{nat_lt}
-use Rattle.std.proofs.lemmas.List.{same_lists, get_or_default}
 use Rattle.bow_units.specs.declared.sizes.Geometry.{Geometry}
 use Rattle.bow_units.specs.declared.sizes.Extent.{Extent}
 use Rattle.bow_units.specs.declared.statuses.Kind.{Kind}
-use Rattle.bow_units.specs.declared.statuses.Kind.TheVariants.{Unchanged, Free, Backup}
+use Rattle.bow_units.specs.declared.statuses.Kind.TheVariants.{Free, Backup}
 use Rattle.bow_ranges.specs.Kinds.{kind_at, with_kind, is_free, count_of}
 use Rattle.bow_ranges.specs.Picks.{picked}
 use Rattle.bow_units.specs.declared.requests.Op.TheVariants.{Prepare}

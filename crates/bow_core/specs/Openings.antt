@@ -1,7 +1,9 @@
 -- What an opening finds and leaves.
 use Rattle.std.specs.Prelude.{◌≡◌, ◌⊎◌, ℕ, ◌≤◌, List, [], slice_index_or, Option, None, Some, Result, OnOk, IfErr}
 use Rattle.std.specs.Prelude.{◌+◌}
+use Rattle.bow_machine.specs.Calls.{ReadCall, FlushCall, Succeeded, Gave}
 use Rattle.bow_core.specs.Calls.{Counted}
+use Rattle.bow_core.specs.Ports.{Makes}
 use Rattle.bow_units.specs.declared.sizes.Geometry.{Geometry}
 use Rattle.bow_units.specs.Sizes.{IsValid}
 use Rattle.bow_units.specs.Causes.{Rose}
@@ -59,6 +61,25 @@ OpenedNot content before now faults.NeedsRestore = BeginsMagic content
 OpenedNot content before now faults.DiskFault = Rose before now
 OpenedNot content before now fault = ⊥
 
+-- Both calls of an opening were done: a flush, and then a read of block 0.
+pub record BothDone {D : Type 0} (stated : D → Option Geometry) (content : D → Option Content) (moment : D → ℕ)
+    (left : D → ℕ → List (List ℕ) → Type 0) (faults_of : D → ℕ) (g : Geometry) (old new : D) : Type 0 where
+  pub between : D
+  pub block : List ℕ
+  pub first : ℕ
+  pub second : ℕ
+  pub third : ℕ
+  pub flush : Makes stated content moment left faults_of g (Some FlushCall) Succeeded old between first second
+  pub read : Makes stated content moment left faults_of g (Some (ReadCall 0)) (Gave block) between new second third
+
+-- An opening that went so had no failed call: it asked the sizes, which changed nothing, and did both calls.
+pub record OpenedBy {D : Type 0} (stated : D → Option Geometry) (content : D → Option Content) (moment : D → ℕ)
+    (left : D → ℕ → List (List ℕ) → Type 0) (faults_of : D → ℕ) (g : Geometry) (old new : D) : Type 0 where
+  pub asked : D
+  pub sizes : stated asked ≡ Some g
+  pub same : IsUntouched content moment old asked
+  pub done : BothDone stated content moment left faults_of g asked new
+
 -- the flush and the read of block 0 of an opening, by their result
 pub record LeftBy {D : Type 0} {T : Type 0} (stated : D → Option Geometry) (content : D → Option Content)
     (moment : D → ℕ) (left : D → ℕ → List (List ℕ) → Type 0) (faults_of : D → ℕ) (g : Geometry)
@@ -66,5 +87,6 @@ pub record LeftBy {D : Type 0} {T : Type 0} (stated : D → Option Geometry) (co
   pub sizes : stated new ≡ Some g
   pub kept : KeepsImage stated content moment left faults_of old new
   pub settled : OnOk result (SettledBy (content old) (content new) (moment old) (moment new))
+  pub done : OnOk result (BothDone stated content moment left faults_of g old new)
   pub clock : (c : Content) → content old ≡ Some c → moment new ≤ moment old + 2
   pub cause : IfErr result (OpenedNot (content new) (faults_of old) (faults_of new))

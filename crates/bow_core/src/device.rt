@@ -6,7 +6,7 @@ ghost use Rattle.std.specs.Option.{option_map};
 ghost use Rattle.bow_core.specs.Calls.{read_reply, Counted};
 ghost use Rattle.bow_core.specs.Forward.{IsForward, StaysForward};
 ghost use Rattle.bow_core.specs.Further.{BehindIn, IsReadable, KeepsOn, LedIn};
-ghost use Rattle.bow_core.specs.Openings.{KeepsImage, LeftBy, OpenCause};
+ghost use Rattle.bow_core.specs.Openings.{KeepsImage, LeftBy, OpenCause, OpenedBy};
 ghost use Rattle.bow_core.specs.Ports.{Makes};
 ghost use Rattle.bow_core.specs.Refusals.{RefusesExactly};
 ghost use Rattle.bow_core.specs.Room.{FindsNoSpace, IsExactRoom};
@@ -121,11 +121,11 @@ fn step_turn<D: Disk, R: Ranges>(port: &mut Port<D>, state: &mut State<R>, turn:
 impl<D: Disk, R: Ranges> Core<D, R> {
     /// Opens a device of 1 to 16 places on a disk: asks the sizes, takes all memory, flushes, and reads block 0. The
     /// device is then in phase `Trim`, no request waits, and it stands for the opening state of the disk's image, of
-    /// which block 0 begins with no magic. The image is unchanged, and what a cut leaves meanwhile it might have left
-    /// before; on an error the disk is handed back so: `BadGeometry` comes exactly where the disk states sizes that
-    /// are not valid, before any read, write or flush; `NeedsRestore` exactly where block 0 begins with a magic;
-    /// `DiskFault` only where its count of faults rose in this call, and then its sizes are valid or nothing was
-    /// read, written or flushed.
+    /// which block 0 begins with no magic; none of its calls has failed. The image is unchanged, and what a cut leaves
+    /// meanwhile it might have left before; on an error the disk is handed back so: `BadGeometry` comes exactly where
+    /// the disk states sizes that are not valid, before any read, write or flush; `NeedsRestore` exactly where block 0
+    /// begins with a magic; `DiskFault` only where its count of faults rose in this call, and then its sizes are valid
+    /// or nothing was read, written or flushed.
     pub fn open(alloc: Global, mut disk: D, places: u32) -> Result<Core<D, R>, (OpenFault, D)>
         requires some { 1 ≤ places }
         requires few { places ≤ 16 }
@@ -139,6 +139,8 @@ impl<D: Disk, R: Ranges> Core<D, R> {
             []) × StandsIn D.content core (opening c.now)) }
         ensures led { (c : Content) → D.content disk ≡ Some c → IfOk result (λ core. LedIn D.content core (opening
             c.now)) }
+        ensures unfailed { IfOk result (λ core. OpenedBy D.stated D.content D.moment D.left_since D.faults core.geometry
+            disk core.disk) }
         ensures clock { (c : Content) → D.content disk ≡ Some c → MatchResult result (λ core. Counted 2 (D.moment disk)
             (D.moment core.disk)) (λ e. D.moment e.1 ≤ D.moment disk + 2) }
         ensures cause { IfErr result (λ e. OpenCause D.stated D.content D.moment D.faults disk e.1 e.0) }
@@ -293,7 +295,7 @@ impl<D: Disk, R: Ranges> Core<D, R> {
         ensures faults { D.faults self.old.disk ≤ D.faults self.new.disk }
         ensures space { (r : Request) → (told_of result ≡ Answered r.ticket r.op (NoSpace r.done)) ↔ FindsNoSpace
             self.old.geometry self.old.memory turn r }
-        ensures refused { RefusesExactly self.old.geometry self.old.memory turn result }
+        ensures refused { RefusesExactly self.old.geometry self.old.memory (turn_of turn) result }
         ensures tied { IsTied self.old.geometry self.old.memory self.new.memory }
         ensures calls { (self.old.calls ≤ self.new.calls) × (self.new.calls ≤ self.old.calls + 1) }
         ensures opened { IsOpened D.stated self.new }
