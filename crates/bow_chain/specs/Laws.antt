@@ -8,7 +8,7 @@ use Rattle.bow_log.specs.Generations.{Generation, GenerationFits}
 use Rattle.bow_chain.specs.Contents.{Contents}
 use Rattle.bow_chain.specs.Places.{pass, base}
 use Rattle.bow_chain.specs.Sound.{IsChain, IsSound}
-use Rattle.bow_chain.specs.Counting.{AtLogs, AtPlaces}
+use Rattle.bow_chain.specs.Counting.{AtLogs, AtPlaces, InUse}
 use Rattle.bow_chain.specs.Kept.{Keeps, kept}
 use Rattle.bow_chain.specs.Faults.{AreAbove, IsFirstFault}
 use Rattle.bow_chain.specs.declared.faults.ChainFault.{ChainFault}
@@ -25,13 +25,13 @@ pub record AgreeWhereItCounts (g : Geometry) (used : ℕ → Bool) (image other 
   pub places : AtPlaces g used (λ x. other x ≡ image x) log older
 
 -- Where one of two images that agree where it counts is sound, so is the other, with the same logs and so the same
--- places, and it keeps the same of each used block.
+-- places, and it keeps the same of each block in use.
 abbrev pub SameWhereItCounts : Type 0
 SameWhereItCounts =
     (g : Geometry) (used : ℕ → Bool) (image other : Contents) (log : Generation) (older : List Generation)
     → AgreeWhereItCounts g used image other log older → IsSound g image log older
     → IsSound g other log older
-    × ((x : ℕ) → x < g.blocks → used x ≡ true → kept other (log ∷ older) x ≡ kept image (log ∷ older) x)
+    × ((x : ℕ) → x < g.blocks → InUse used x → kept other (log ∷ older) x ≡ kept image (log ∷ older) x)
 
 -- Two images have the same along two routes at each place that counts for these logs: where these are a chain along the
 -- one, they are one along the other.
@@ -47,12 +47,12 @@ BasesAreOn = (g : Geometry) (image : Contents) (log : Generation) (older : List 
     → IsSound g image log older → (x : ℕ) → x < g.blocks
     → (0 < base (log ∷ older) x) × (base (log ∷ older) x < g.blocks)
 
--- with whichever logs an image is sound: it keeps what was saved exactly where its used blocks' bases hold that
+-- with whichever logs an image is sound: it keeps what was saved exactly where the bases of its blocks in use hold that
 abbrev pub KeptAtBases : Type 0
 KeptAtBases = (g : Geometry) (used : ℕ → Bool) (saved image : Contents) (log : Generation) (older : List Generation)
     → IsSound g image log older
     → Keeps g used saved image
-    ↔ ((x : ℕ) → x < g.blocks → used x ≡ true → kept image (log ∷ older) x ≡ saved x)
+    ↔ ((x : ℕ) → x < g.blocks → InUse used x → kept image (log ∷ older) x ≡ saved x)
 
 -- the numbers of a sound image's logs fit their places, where its blocks are bytes
 abbrev pub LogsFit : Type 0

@@ -1,11 +1,11 @@
 -- What each write of the device does to what stands behind a log, and to what is kept there.
-use Rattle.std.proofs.Common.{ℕ, suc, ◌<◌, ◌≡◌, Bool, false, true, List, [], ◌∷◌, Some, sym, ap, ◌∙◌, subst}
+use Rattle.std.proofs.Common.{ℕ, suc, ◌<◌, ◌≡◌, Bool, false, List, [], ◌∷◌, Some, sym, ap, ◌∙◌, subst}
 use Rattle.bow_units.specs.declared.sizes.Geometry.{Geometry}
 use Rattle.bow_log.specs.Generations.{Backup, Generation, IsGeneration}
 use Rattle.bow_chain.specs.Contents.{Contents, run_of}
 use Rattle.bow_chain.specs.Places.{hop, pass, base, InDest}
 use Rattle.bow_chain.specs.Sound.{log_in, sum_at, SumsHold, IsChain}
-use Rattle.bow_chain.specs.Counting.{AtSums, AtLogs}
+use Rattle.bow_chain.specs.Counting.{AtSums, AtLogs, InUse}
 use Rattle.bow_chain.proofs.Hops.{pass-append}
 use Rattle.bow_chain.proofs.Moved.{sums_moved, moved}
 use Rattle.bow_chain.proofs.Counting.{entries_map, places_map, at_places_map, entries_append, places_route, chain_route, sums_append}
@@ -100,12 +100,12 @@ module _ (g : Geometry) (used : ℕ → Bool) (saved : Contents) where
         kept = λ x on u. subst (λ es. other (pass es (base (log ∷ older) x)) ≡ saved x) es (same _ ((k.places).bases x on u) ∙ k.kept x on u);
       }
 
-  -- The first log: each used block is kept where the one backup puts it.
+  -- The first log: each block in use is kept where the one backup puts it.
   pub armed : (P : ℕ → Type 0) (image : Contents) (log : Generation) (b : Backup)
       → IsGeneration g log → log.entries ≡ b ∷ [] → log.sequence ≡ 0
       → sum_at b.source (run_of image b.dest b.count) ≡ b.sum
       → ((x : ℕ) → InDest b x → P x)
-      → ((x : ℕ) → x < g.blocks → used x ≡ true → P (hop b x)) → ((x : ℕ) → x < g.blocks → used x ≡ true → image (hop b x) ≡ saved x)
+      → ((x : ℕ) → x < g.blocks → InUse used x → P (hop b x)) → ((x : ℕ) → x < g.blocks → InUse used x → image (hop b x) ≡ saved x)
       → KeptBehind g P used saved image log []
   armed P image log b ok entries sequence sum dests firm kept =
       let es = sym entries in

@@ -15,6 +15,7 @@ use Rattle.bow_chain.specs.Contents.{Contents, run_of, with_block}
 use Rattle.bow_chain.specs.Places.{hop, InDest}
 use Rattle.bow_chain.specs.Sound.{log_in, sum_at}
 use Rattle.bow_chain.specs.Kept.{IsPlain}
+use Rattle.bow_chain.specs.Counting.{InUse}
 use Rattle.bow_chain.proofs.Hops.{hop_first, hop_out}
 use Rattle.bow_chain.proofs.Counting.{spelled_ok}
 use Rattle.bow_guard.specs.Cuts.{Candidates, IsCut, IsFlushed, WriteGiven}
@@ -24,7 +25,7 @@ use Rattle.bow_guard.specs.Standing.{Ahead}
 use Rattle.bow_guard.specs.Phases.{IsPending, IsArming, IsDeciding}
 use Rattle.bow_guard.proofs.Kept.{same_keeps, armed}
 use Rattle.bow_guard.proofs.Device.{KeepsKind, one_of, kind_not_saved, given_cases, steady_safe, not_0, firm_same, some_block}
-use Rattle.bow_guard.proofs.Phases.{may_plain, may_within, may_read}
+use Rattle.bow_guard.proofs.Phases.{used_above, may_plain, may_within, may_read}
 
 put_cases : {A : Type 0} (P : A → Type 0) (f : ℕ → A) (b : ℕ) (v : A) (x : ℕ) → (x ≡ b → P v) → (x ≢ b → P (f x)) → P (put f b v x)
 put_cases P f b v x here there = elim (cases_eq x b) [
@@ -111,11 +112,11 @@ module _ (g : Geometry) where
       dests : (x : ℕ) → InDest b x → Steady g d x
       dests x h = let is : x ≡ b.dest = omega arith in subst (Steady g d) (sym is) dest
 
-      used : (x : ℕ) → x < g.blocks → not (is_any (f.current x)) ≡ true → Steady g d (hop b x) × (d.now (hop b x) ≡ d.now x)
+      used : (x : ℕ) → x < g.blocks → InUse (λ b. not (is_any (f.current b))) x → Steady g d (hop b x) × (d.now (hop b x) ≡ d.now x)
       used zero on u = let is = hop_first b source count in (subst (Steady g d) (sym is) dest, ap d.now is ∙ same)
       used (suc x) on u =
           let is = hop_out b (suc x) (λ h. omega arith) in
-          let kind = unchanged (suc x) (omega arith) on u in
+          let kind = unchanged (suc x) (omega arith) on (used_above (λ b. not (is_any (f.current b))) x u) in
           (subst (Steady g d) (sym is) (record { firm = record { on_device = on; one = flushed (suc x) on; not_picked = kind.1 }; kind = inl kind.0 }), ap d.now is)
 
   -- The first log is written, or the write fails.

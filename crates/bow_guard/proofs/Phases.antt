@@ -1,5 +1,5 @@
 -- Whatever a cut leaves stands for the flat state, in every phase.
-use Rattle.std.proofs.Common.{ℕ, zero, suc, ◌<◌, ◌≡◌, ◌≢◌, true, not, List, [], ◌∷◌, Option, Some, None, arith, refl, sym, ap, ◌∙◌, subst, ◌⊎◌, inl, inr, Contains}
+use Rattle.std.proofs.Common.{ℕ, zero, suc, ◌<◌, ◌≡◌, ◌≢◌, Bool, true, not, List, [], ◌∷◌, Option, Some, None, arith, refl, sym, ap, ◌∙◌, subst, ◌⊎◌, inl, inr, Contains}
 use Rattle.std.proofs.lemmas.Bool.{cases_eq}
 use Rattle.bow_units.specs.declared.sizes.Geometry.{Geometry}
 use Rattle.bow_units.specs.declared.requests.Phase.{Phase}
@@ -9,6 +9,7 @@ use Rattle.bow_flat.specs.Valid.{IsPlainList, IsWithin, HasCheckpoint, IsState}
 use Rattle.bow_chain.specs.Contents.{Contents}
 use Rattle.bow_chain.specs.Sound.{log_in}
 use Rattle.bow_chain.specs.Kept.{IsPlain, Keeps, Holds}
+use Rattle.bow_chain.specs.Counting.{InUse}
 use Rattle.bow_guard.specs.Cuts.{Candidates, IsCut}
 use Rattle.bow_guard.specs.Device.{Device, Steady, Safe}
 use Rattle.bow_guard.specs.Standing.{Shows, StandsIn, StandsFor, HasCheckpointIn}
@@ -46,6 +47,10 @@ may_read current b x v w here may = elim (cases_eq x b) [
   | inr ne ↦ subst (λ u. May u w) (sym (put_other current b (narrowed (current b) v) x ne)) may
 ]
 
+pub used_above : (used : ℕ → Bool) (b : ℕ) → InUse used (suc b) → used (suc b) ≡ true
+used_above used b (inl is) = absurd cc
+used_above used b (inr is) = is
+
 module _ (g : Geometry) where
   pending_cut : (f : Flat) (may : Candidates) (image : Contents) → 0 < g.blocks → IsState f → IsPending g f may → IsCut g may image → Shows g f.pending image
   pending_cut f may image some valid leaves cut = record {
@@ -54,12 +59,17 @@ module _ (g : Geometry) where
   }
 
   module _ (f : Flat) (valid : IsState f) (is : f.phase ≡ Arming) where
-    -- in arming what is pending is what was saved
-    saved_pending : (image : Contents) → ((b : ℕ) → b < g.blocks → f.used b ≡ true → image b ≡ f.saved b) → (b : ℕ) → b < g.blocks → May (f.pending b) (image b)
-    saved_pending image same b on = subst (λ c. May c (image b)) (sym (valid.arming_pending is b)) (may_one (f.current b) (image b) (f.saved b) (λ e. let u = valid.arming_used is b ∙ e in (same b on u, valid.arming_saved is b u)))
+    -- block 0 is used
+    used_in : (b : ℕ) → InUse f.used b → f.used b ≡ true
+    used_in b (inl zeroth) = ap f.used zeroth ∙ valid.used_0 (subst (λ p. HasCheckpoint p) (sym is) tt)
+    used_in b (inr used) = used
 
-    pending_saved : (image : Contents) → ((b : ℕ) → b < g.blocks → May (f.pending b) (image b)) → (b : ℕ) → b < g.blocks → f.used b ≡ true → image b ≡ f.saved b
-    pending_saved image may b on u = one_of (f.saved b) (image b) (subst (λ c. May c (image b)) (valid.arming_pending is b ∙ valid.arming_saved is b u) (may b on))
+    -- in arming what is pending is what was saved
+    saved_pending : (image : Contents) → ((b : ℕ) → b < g.blocks → InUse f.used b → image b ≡ f.saved b) → (b : ℕ) → b < g.blocks → May (f.pending b) (image b)
+    saved_pending image same b on = subst (λ c. May c (image b)) (sym (valid.arming_pending is b)) (may_one (f.current b) (image b) (f.saved b) (λ e. let u = valid.arming_used is b ∙ e in (same b on (inr u), valid.arming_saved is b u)))
+
+    pending_saved : (image : Contents) → ((b : ℕ) → b < g.blocks → May (f.pending b) (image b)) → (b : ℕ) → b < g.blocks → InUse f.used b → image b ≡ f.saved b
+    pending_saved image may b on u = one_of (f.saved b) (image b) (subst (λ c. May c (image b)) (valid.arming_pending is b ∙ valid.arming_saved is b (used_in b u)) (may b on))
 
   arming_cut : (f : Flat) (d : Device) (image : Contents) → IsState f → f.phase ≡ Arming → IsArming g f d → IsCut g d.may image → Shows g f.pending image ⊎ Keeps g f.used f.saved image
   arming_cut f d image valid is a cut =
@@ -72,9 +82,9 @@ module _ (g : Geometry) where
         })
       ]
     where
-      in_place : image 0 ≡ f.saved 0 → (b : ℕ) → b < g.blocks → f.used b ≡ true → image b ≡ f.saved b
+      in_place : image 0 ≡ f.saved 0 → (b : ℕ) → b < g.blocks → InUse f.used b → image b ≡ f.saved b
       in_place same zero on u = same
-      in_place same (suc b) on u = one_of (f.saved (suc b)) (image (suc b)) (subst (λ vs. Contains vs (image (suc b))) (a.in_place (suc b) (omega arith) on u) (cut (suc b) on))
+      in_place same (suc b) on u = one_of (f.saved (suc b)) (image (suc b)) (subst (λ vs. Contains vs (image (suc b))) (a.in_place (suc b) (omega arith) on (used_above f.used b u)) (cut (suc b) on))
 
   deciding_cut : (f : Flat) (d : Device) (image : Contents) (content : List ℕ) → IsDeciding g f content d → IsCut g d.may image → Keeps g f.used f.saved image ⊎ Shows g f.current image
   deciding_cut f d image content a cut = elim (a.heads (image 0) (cut 0 (some_block g d.log a.log.behind.valid))) [

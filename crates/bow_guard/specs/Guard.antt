@@ -1,21 +1,21 @@
 -- The guard: whichever log a cut leaves in block 0, the checkpoint is kept behind it.
-use Rattle.std.specs.Prelude.{ℕ, ◌≡◌, ◌<◌, ◌⊎◌, Bool, true, List, ◌∷◌, Some, Contains}
+use Rattle.std.specs.Prelude.{ℕ, ◌≡◌, ◌<◌, ◌⊎◌, Bool, List, ◌∷◌, Some, Contains}
 use Rattle.bow_units.specs.declared.sizes.Geometry.{Geometry}
 use Rattle.bow_units.specs.declared.statuses.Kind.TheVariants.{Sector0}
 use Rattle.bow_log.specs.Generations.{Generation}
 use Rattle.bow_chain.specs.Contents.{Contents}
 use Rattle.bow_chain.specs.Places.{base}
 use Rattle.bow_chain.specs.Sound.{log_in, StandsBehind}
-use Rattle.bow_chain.specs.Counting.{AtPlaces}
+use Rattle.bow_chain.specs.Counting.{AtPlaces, InUse}
 use Rattle.bow_guard.specs.Device.{Device, Steady, Safe}
 
--- Behind this log, wherever it lies itself, each used block is kept as it was saved, and P holds of each place that
+-- Behind this log, wherever it lies itself, each block in use is kept as it was saved, and P holds of each place that
 -- counts for that.
 pub record KeptBehind (g : Geometry) (P : ℕ → Type 0) (used : ℕ → Bool) (saved image : Contents)
     (log : Generation) (older : List Generation) : Type 0 where
   pub behind : StandsBehind g image log older
   pub places : AtPlaces g used P log older
-  pub kept : (x : ℕ) → x < g.blocks → used x ≡ true → image (base (log ∷ older) x) ≡ saved x
+  pub kept : (x : ℕ) → x < g.blocks → InUse used x → image (base (log ∷ older) x) ≡ saved x
 
 -- Block 0 may hold the log in memory or the last durable one, and nothing else. All is kept behind either: behind the
 -- log in memory at steady places, behind the durable one at safe ones.

@@ -1,5 +1,5 @@
 -- The logs behind the log in memory are those by which the device keeps the checkpoint.
-use Rattle.std.proofs.Common.{ℕ, ◌<◌, ◌≡◌, true, List, ◌∷◌, sym, ap, ◌∙◌, subst}
+use Rattle.std.proofs.Common.{inr, ℕ, ◌<◌, ◌≡◌, true, List, ◌∷◌, sym, ap, ◌∙◌, subst}
 use Rattle.bow_units.specs.declared.sizes.Geometry.{Geometry}
 use Rattle.bow_units.specs.declared.requests.Phase.TheVariants.{Checkpoint}
 use Rattle.bow_log.specs.Generations.{Generation}
@@ -33,7 +33,7 @@ module _ (g : Geometry) (m : Memory) (now : Contents) (may : Candidates) (f : Fl
   same = same_chain g now (pass log.entries) k.older older (sym guarded.log.behind.sequence ∙ i.behind.sequence) guarded.log.behind.chain i.behind.chain
 
   reached : (x : ℕ) → x < g.blocks → f.used x ≡ true → now (base (log ∷ older) x) ≡ f.saved x
-  reached x on used = subst (λ o. now (base (log ∷ o) x) ≡ f.saved x) same (guarded.log.kept x on used)
+  reached x on used = subst (λ o. now (base (log ∷ o) x) ≡ f.saved x) same (guarded.log.kept x on (inr used))
 
   sound : IsSound g (live g now log) log older
   sound =

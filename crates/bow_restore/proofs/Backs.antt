@@ -8,6 +8,7 @@ use Rattle.bow_disk.specs.Disk.{Content, IsCrash, IsImage, Flushed}
 use Rattle.bow_chain.specs.Contents.{Contents, contents_of}
 use Rattle.bow_chain.specs.Sound.{log_in, IsSound}
 use Rattle.bow_chain.specs.Kept.{IsPlain, Holds}
+use Rattle.bow_chain.specs.Counting.{InUse}
 use Rattle.bow_restore.specs.Rewinds.{PassesOn}
 use Rattle.bow_restore.specs.Replaying.{IsFlushed}
 use Rattle.bow_restore.specs.Answers.{TellsHead, TellsSound, LeftBy, Untouched, IsBack, EndsBack}
@@ -28,22 +29,22 @@ pub plain_unsound : (g : Geometry) → IsValid g → (image : List (List ℕ)) �
 unfolding log_in
 plain_unsound g valid image whole plain log older s = plain (spelled_has_magic g (contents_of image 0) log valid (whole.each 0 (omega (arith, valid.enough))) s.spelled)
 
-module _ (g : Geometry) (valid : IsValid g) (used : ℕ → Bool) (saved : Contents) (zeroth : used 0 ≡ true) (plain : IsPlain (saved 0)) where
+module _ (g : Geometry) (valid : IsValid g) (used : ℕ → Bool) (saved : Contents) (plain : IsPlain (saved 0)) where
   some : 0 < g.blocks
   some = omega (arith, valid.enough)
 
-  in_place_plain : (image : Contents) → ((x : ℕ) → x < g.blocks → used x ≡ true → image x ≡ saved x) → IsPlain (image 0)
-  in_place_plain image is = subst IsPlain (sym (is 0 some zeroth)) plain
+  in_place_plain : (image : Contents) → ((x : ℕ) → x < g.blocks → InUse used x → image x ≡ saved x) → IsPlain (image 0)
+  in_place_plain image is = subst IsPlain (sym (is 0 some (inl refl))) plain
 
   -- what is passed on holds the checkpoint
   pub passed_holds : (image cut : List (List ℕ)) → IsImage g.block_size g.blocks image → PassesOn g image cut → Holds g used saved (contents_of image) → Holds g used saved (contents_of cut)
   passed_holds image cut whole on (inl k) = elim (on.sound k.log k.older k.sound) [
-    | inl after ↦ inl (record { log = after.log; older = after.older; sound = after.sound; kept = λ x here u. after.kept x here refl ∙ k.kept x here u })
-    | inr back ↦ inr (λ x here u. back x here refl ∙ k.kept x here u)
+    | inl after ↦ inl (record { log = after.log; older = after.older; sound = after.sound; kept = λ x here u. after.kept x here (inr refl) ∙ k.kept x here u })
+    | inr back ↦ inr (λ x here u. back x here (inr refl) ∙ k.kept x here u)
   ]
   passed_holds image cut whole on (inr is) = subst (λ (l : List (List ℕ)). Holds g used saved (contents_of l)) (sym (on.unsound (plain_unsound g valid image whole (in_place_plain (contents_of image) is)))) (inr is)
 
-  back_of : {T : Type 0} (content : T → Option Content) (disk : T) (c : Content) → ((d : Content) → content disk ≡ Some d → IsFlushed d → ((x : ℕ) → x < g.blocks → used x ≡ true → contents_of d.now x ≡ saved x) → IsBack g used saved d)
+  back_of : {T : Type 0} (content : T → Option Content) (disk : T) (c : Content) → ((d : Content) → content disk ≡ Some d → IsFlushed d → ((x : ℕ) → x < g.blocks → InUse used x → contents_of d.now x ≡ saved x) → IsBack g used saved d)
   back_of content disk c d is flushed blocks = record { flushed = flushed; plain = in_place_plain (contents_of d.now) blocks; blocks = blocks }
 
   -- once it ends well the checkpoint is back

@@ -22,8 +22,8 @@ pub passes_self : (g : Geometry) (image : List (List ℕ)) → PassesOn g image 
 passes_self g image = record { sound = λ log older s. inl (record { log = log; older = older; sound = s; kept = λ x on u. refl }); unsound = λ none. refl }
 
 pub reruns_hold : RerunsHold
-reruns_hold g used saved image last [] valid whole zeroth plain holds is = subst (λ (l : List (List ℕ)). Holds g used saved (contents_of l)) (sym is) holds
-reruns_hold g used saved image last (next ∷ more) valid whole zeroth plain holds runs = reruns_hold g used saved next last more valid runs.1 zeroth plain (passed_holds g valid used saved zeroth plain image next whole runs.0 holds) runs.2
+reruns_hold g used saved image last [] valid whole plain holds is = subst (λ (l : List (List ℕ)). Holds g used saved (contents_of l)) (sym is) holds
+reruns_hold g used saved image last (next ∷ more) valid whole plain holds runs = reruns_hold g used saved next last more valid runs.1 plain (passed_holds g valid used saved plain image next whole runs.0 holds) runs.2
 
 unchanged : (g : Geometry) (P : List (List ℕ) → Type 0) → ((image next : List (List ℕ)) → P image → PassesOn g image next → next ≡ image) → (image last : List (List ℕ)) (between : List (List (List ℕ))) → P image → Reruns g image between last → last ≡ image
 unchanged g P same image last [] is runs = runs
@@ -31,7 +31,7 @@ unchanged g P same image last (next ∷ more) is runs = let e = same image next 
 
 pub reruns_pass_on : RerunsPassOn
 reruns_pass_on g image last between valid whole plain runs = record {
-  sound = λ log older s. reruns_hold g every (kept (contents_of image) (log ∷ older)) image last between valid whole refl (plain log older s) (inl (record { log = log; older = older; sound = s; kept = λ x on u. refl })) runs;
+  sound = λ log older s. reruns_hold g every (kept (contents_of image) (log ∷ older)) image last between valid whole (plain log older s) (inl (record { log = log; older = older; sound = s; kept = λ x on u. refl })) runs;
   unsound = λ none. unchanged g (λ i. (log : Generation) (older : List Generation) → IsSound g (contents_of i) log older → ⊥) (λ i next is on. on.unsound is) image last between none runs;
 }
 

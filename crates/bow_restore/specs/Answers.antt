@@ -1,5 +1,5 @@
 -- What a restoration answers, and what it leaves.
-use Rattle.std.specs.Prelude.{ℕ, ◌≡◌, ◌<◌, ◌-◌, Bool, true, List, Option, Some}
+use Rattle.std.specs.Prelude.{ℕ, ◌≡◌, ◌<◌, ◌-◌, Bool, List, Option, Some}
 use Rattle.bow_units.specs.declared.sizes.Geometry.{Geometry}
 use Rattle.bow_units.specs.Causes.{Rose}
 use Rattle.bow_units.specs.Magics.{HasMagic}
@@ -9,6 +9,7 @@ use Rattle.bow_chain.specs.Contents.{Contents, contents_of}
 use Rattle.bow_chain.specs.Sound.{IsSound}
 use Rattle.bow_chain.specs.Faults.{IsFirstFault}
 use Rattle.bow_chain.specs.Kept.{IsPlain, Holds}
+use Rattle.bow_chain.specs.Counting.{InUse}
 use Rattle.bow_chain.specs.declared.faults.ChainFault.{ChainFault}
 use Rattle.bow_chain.specs.declared.faults.ChainFault.TheVariants.{NoLog, BadLog, BadSequence, BadSum, DiskFault as ChainDiskFault, NoMemory as ChainNoMemory}
 use Rattle.bow_restore.specs.Marks.{entries_of, marks_of}
@@ -30,11 +31,11 @@ abbrev pub FromFault : {T : Type 0} → Geometry → (T → Option Content) → 
 FromFault g content disk P = (c : Content) → content disk ≡ Some c → (first : ChainFault)
     → IsFirstFault g (contents_of c.now) first → P c first
 
--- so where whatever a cut may leave of a disk holds this checkpoint: the used blocks, block 0 among them, and what was
--- saved of each, a plain block 0
+-- so where whatever a cut may leave of a disk holds this checkpoint: the blocks in use, and what was saved of each, a
+-- plain block 0
 abbrev pub FromHeld : {T : Type 0} → Geometry → (T → Option Content) → T → ((ℕ → Bool) → Contents → Type 0) → Type 0
 FromHeld g content disk P = (c : Content) → content disk ≡ Some c → (used : ℕ → Bool) (saved : Contents)
-    → used 0 ≡ true → IsPlain (saved 0)
+    → IsPlain (saved 0)
     → ((image : List (List ℕ)) → IsCrash c.candidates image → Holds g used saved (contents_of image)) → P used saved
 
 -- what cuts of a call leave holds the checkpoint too
@@ -96,11 +97,11 @@ abbrev pub Untouched : Restored → Content → Content → Type 0
 Untouched DiskFault old new = new.now ≡ old.now
 Untouched answer old new = (new.now ≡ old.now) × IsFlushed new
 
--- the checkpoint is back: each used block is as it was saved, block 0 has no magic, and all is flushed
+-- the checkpoint is back: each block in use is as it was saved, block 0 has no magic, and all is flushed
 pub record IsBack (g : Geometry) (used : ℕ → Bool) (saved : Contents) (c : Content) : Type 0 where
   pub flushed : IsFlushed c
   pub plain : IsPlain (contents_of c.now 0)
-  pub blocks : (x : ℕ) → x < g.blocks → used x ≡ true → contents_of c.now x ≡ saved x
+  pub blocks : (x : ℕ) → x < g.blocks → InUse used x → contents_of c.now x ≡ saved x
 
 -- so it is after a restoration that ends well
 abbrev pub EndsBack : {T : Type 0} → Geometry → (ℕ → Bool) → Contents → (T → Option Content) → T → Restored → Type 0

@@ -1,5 +1,5 @@
 -- What follows from the definitions.
-use Rattle.std.specs.Prelude.{ℕ, ◌≡◌, ◌↔◌, Bool, true, IsTrue, List, ◌∷◌}
+use Rattle.std.specs.Prelude.{ℕ, ◌≡◌, ◌↔◌, Bool, IsTrue, List, ◌∷◌}
 use Rattle.bow_units.specs.declared.sizes.Geometry.{Geometry}
 use Rattle.bow_units.specs.Sizes.{IsValid}
 use Rattle.bow_log.specs.Generations.{Backup, Generation, IsBackup}
@@ -25,7 +25,7 @@ RerunsPassOn = (g : Geometry) (image last : List (List ℕ)) (between : List (Li
 abbrev pub RerunsHold : Type 0
 RerunsHold = (g : Geometry) (used : ℕ → Bool) (saved : Contents) (image last : List (List ℕ))
     (between : List (List (List ℕ)))
-    → IsValid g → IsImage g.block_size g.blocks image → used 0 ≡ true → IsPlain (saved 0)
+    → IsValid g → IsImage g.block_size g.blocks image → IsPlain (saved 0)
     → Holds g used saved (contents_of image)
     → Reruns g image between last → Holds g used saved (contents_of last)
 

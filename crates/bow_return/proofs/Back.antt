@@ -4,7 +4,6 @@ use Rattle.bow_units.specs.declared.sizes.Geometry.{Geometry}
 use Rattle.bow_units.specs.declared.requests.Phase.{Phase}
 use Rattle.bow_units.specs.declared.requests.Phase.TheVariants.{Trim, Arming, Checkpoint, Deciding, Committed}
 use Rattle.bow_flat.specs.Flat.{Flat}
-use Rattle.bow_flat.specs.Valid.{HasCheckpoint}
 use Rattle.bow_chain.specs.Contents.{Contents, contents_of}
 use Rattle.bow_guard.specs.Standing.{StandsFor, StandsIn, HasCheckpointIn}
 use Rattle.bow_guard.proofs.Proved.{held_together}
@@ -16,18 +15,10 @@ use Rattle.vold_meta.specs.Attempts.{text_of}
 use Rattle.vold_commands.proofs.Rebooting.{boots_roll_back}
 use Rattle.bow_return.specs.Laws.{IsLeft, HeldFromTheCheckpoint, HeldFromAnyCut, BootsBringBack}
 
-has_one : (g : Geometry) (f : Flat) (image : Contents) (p : Phase) → f.phase ≡ p → HasCheckpointIn g p f image → HasCheckpoint f.phase
-has_one g f image Trim is h = absurd h
-has_one g f image Arming is h = subst HasCheckpoint (sym is) tt
-has_one g f image Checkpoint is h = subst HasCheckpoint (sym is) tt
-has_one g f image Deciding is h = subst HasCheckpoint (sym is) tt
-has_one g f image Committed is h = absurd h
-
 pub held_from_the_checkpoint : HeldFromTheCheckpoint
 held_from_the_checkpoint g f image last between valid whole state has runs =
     let both = held_together g f (contents_of image) state has in
-    let used = state.used_0 (has_one g f (contents_of image) f.phase refl has) in
-    record { used_0 = used; plain = both.1; holds = reruns_hold g f.used f.saved image last between valid whole used both.1 both.0 runs }
+    record { plain = both.1; holds = reruns_hold g f.used f.saved image last between valid whole both.1 both.0 runs }
 
 stands_has : (g : Geometry) (f : Flat) (image : Contents) (p : Phase) → f.phase ≡ p → (p ≡ Arming) ⊎ (p ≡ Checkpoint) → StandsIn g p f image → HasCheckpointIn g p f image
 stands_has g f image Trim is (inl e) h = absurd cc
@@ -66,6 +57,6 @@ boots_bring_back g f left i j h l m answer is_left boots boot =
     let standing = d.standing in
     let sound = standing.sound in
     let back = held_from_any_cut g f i is_left in
-    let done = boots_roll_back g f.used f.saved (record { valid = sound.sizes; zeroth = back.used_0; plain = back.plain }) left i j h (text_of (Some 0)) l m answer
+    let done = boots_roll_back g f.used f.saved (record { valid = sound.sizes; plain = back.plain }) left i j h (text_of (Some 0)) l m answer
     (reruns_image g is_left.first i is_left.between d.whole is_left.reruns, back.holds) refl boots boot in
     (done.0, done.1)

@@ -1,5 +1,5 @@
 -- What restoration means for the device.
-use Rattle.std.specs.Prelude.{ℕ, ◌≡◌, ◌⊎◌, true, List, Option, None, Some}
+use Rattle.std.specs.Prelude.{ℕ, ◌≡◌, ◌⊎◌, List, Option, None, Some}
 use Rattle.bow_units.specs.declared.sizes.Geometry.{Geometry}
 use Rattle.bow_units.specs.declared.requests.Phase.TheVariants.{Arming, Checkpoint}
 use Rattle.bow_units.specs.Sizes.{IsValid}
@@ -21,7 +21,6 @@ use Rattle.vold_commands.specs.declared.boots.Booted.{Booted}
 
 -- what restoration asks of an image, to bring the checkpoint of this flat state back
 pub record ComesBack (g : Geometry) (f : Flat) (image : Contents) : Type 0 where
-  pub used_0 : f.used 0 ≡ true
   pub plain : IsPlain (f.saved 0)
   pub holds : Holds g f.used f.saved image
 

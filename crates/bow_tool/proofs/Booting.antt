@@ -33,7 +33,7 @@ booted_since v w g old mid new from to r asked did =
       is_cut = λ c is. did.is_cut c (same ∙ is);
       texts = λ k is. subst (λ told. BootTime (w.moment from) (w.moment to) (w.left_since from) (w.left_since to) (BootPuts ((c : Content) → told ≡ Some c → (logged : Bool) × Tells v.content (PutsBack g logged c) new) k)) same (did.texts k is);
       cuts = λ c is. cuts_since v _ old mid new asked (did.cuts c (same ∙ is));
-      holds = λ c is used saved zeroth plain held cut left. did.holds c (same ∙ is) used saved zeroth plain held cut (since cut left);
+      holds = λ c is used saved plain held cut left. did.holds c (same ∙ is) used saved plain held cut (since cut left);
       in_place = λ c is. did.in_place c (same ∙ is);
     }
 

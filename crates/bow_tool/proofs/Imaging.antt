@@ -58,7 +58,7 @@ restored_since v g limit old mid new answer asked did =
       plain = λ c is. did.plain c (same ∙ is);
       cuts = λ c is. cuts_since v _ old mid new asked (did.cuts c (same ∙ is));
       settled = λ c is settled cut left. did.settled c (same ∙ is) settled cut (since cut left);
-      holds = λ c is used saved zeroth plain held cut left. did.holds c (same ∙ is) used saved zeroth plain held cut (since cut left);
+      holds = λ c is used saved plain held cut left. did.holds c (same ∙ is) used saved plain held cut (since cut left);
       back = λ c is. did.back c (same ∙ is);
     }
 

@@ -1,5 +1,5 @@
 -- What a boot did: its line, and why it was refused.
-use Rattle.std.specs.Prelude.{◌≡◌, ◌⊎◌, ℕ, Bool, true, List, ◌++◌, codes, Option, Some, Result, Ok, Err, IfOk}
+use Rattle.std.specs.Prelude.{◌≡◌, ◌⊎◌, ℕ, Bool, List, ◌++◌, codes, Option, Some, Result, Ok, Err, IfOk}
 use Rattle.std.specs.Fmt.{decimal}
 use Rattle.bow_units.specs.declared.sizes.Geometry.{Geometry}
 use Rattle.bow_disk.specs.Disk.{Content, IsCrash}
@@ -32,12 +32,10 @@ pub record IsBooted {D K : Type 0} (v : DiskView D) (w : KeeperView K) (g : Geom
       → BootTime (w.moment from) (w.moment to) (w.left_since from) (w.left_since to)
       (BootPuts (IsPutBack g v.content old new) k)
   pub cuts : (c : Content) → v.content old ≡ Some c → AddsCuts v.moment v.left_since (PassesOn g c.now) old new
-  pub holds : (c : Content) → v.content old ≡ Some c → (used : ℕ → Bool) (saved : Contents) → used 0 ≡ true
-      → IsPlain (saved 0)
+  pub holds : (c : Content) → v.content old ≡ Some c → (used : ℕ → Bool) (saved : Contents) → IsPlain (saved 0)
       → ((image : List (List ℕ)) → IsCrash c.candidates image → Holds g used saved (contents_of image))
       → (cut : List (List ℕ)) → v.left_since new (v.moment old) cut → Holds g used saved (contents_of cut)
-  pub in_place : (c : Content) → v.content old ≡ Some c → (used : ℕ → Bool) (saved : Contents) → used 0 ≡ true
-      → IsPlain (saved 0)
+  pub in_place : (c : Content) → v.content old ≡ Some c → (used : ℕ → Bool) (saved : Contents) → IsPlain (saved 0)
       → ((image : List (List ℕ)) → IsCrash c.candidates image → Holds g used saved (contents_of image))
       → IfOk r (λ _. Tells v.content (IsBack g used saved) new)
 

@@ -1,5 +1,5 @@
 -- What a restoration and giving the checkpoint up did: the line, and why it was refused.
-use Rattle.std.specs.Prelude.{◌≡◌, ◌⊎◌, ℕ, Bool, true, List, ◌∷◌, ◌++◌, codes, Option, Some}
+use Rattle.std.specs.Prelude.{◌≡◌, ◌⊎◌, ℕ, Bool, List, ◌∷◌, ◌++◌, codes, Option, Some}
 use Rattle.std.specs.Fmt.{decimal}
 use Rattle.bow_units.specs.declared.sizes.Geometry.{Geometry}
 use Rattle.bow_log.specs.Generations.{Generation}
@@ -41,12 +41,10 @@ pub record IsRestored {D : Type 0} (v : DiskView D) (g : Geometry) (limit : Opti
   pub cuts : (c : Content) → v.content old ≡ Some c → AddsCuts v.moment v.left_since (PassesOn g c.now) old new
   pub settled : (c : Content) → v.content old ≡ Some c → IsSettledOn c.now c → (cut : List (List ℕ))
       → v.left_since new (v.moment old) cut → PassesOn g c.now cut
-  pub holds : (c : Content) → v.content old ≡ Some c → (used : ℕ → Bool) (saved : Contents) → used 0 ≡ true
-      → IsPlain (saved 0)
+  pub holds : (c : Content) → v.content old ≡ Some c → (used : ℕ → Bool) (saved : Contents) → IsPlain (saved 0)
       → ((image : List (List ℕ)) → IsCrash c.candidates image → Holds g used saved (contents_of image))
       → (cut : List (List ℕ)) → v.left_since new (v.moment old) cut → Holds g used saved (contents_of cut)
-  pub back : (c : Content) → v.content old ≡ Some c → (used : ℕ → Bool) (saved : Contents) → used 0 ≡ true
-      → IsPlain (saved 0)
+  pub back : (c : Content) → v.content old ≡ Some c → (used : ℕ → Bool) (saved : Contents) → IsPlain (saved 0)
       → ((image : List (List ℕ)) → IsCrash c.candidates image → Holds g used saved (contents_of image))
       → EndsBack g used saved v.content new answer
 

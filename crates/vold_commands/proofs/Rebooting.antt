@@ -1,5 +1,5 @@
 -- The restorer keeps what a boot asks of a restoration.
-use Rattle.std.proofs.Common.{◌≡◌, inl, inr, ℕ, Bool, List, ◌∷◌, Option, Some, sym, ap, ◌∙◌, subst, arith}
+use Rattle.std.proofs.Common.{◌≡◌, inl, inr, refl, ℕ, Bool, List, ◌∷◌, Option, Some, sym, ap, ◌∙◌, subst, arith}
 use Rattle.bow_units.specs.declared.sizes.Geometry.{Geometry}
 use Rattle.bow_log.specs.Generations.{Generation}
 use Rattle.bow_disk.specs.Disk.{IsImage}
@@ -33,7 +33,7 @@ module _ (g : Geometry) (used : ℕ → Bool) (saved : Contents) (all : IsCheckp
   in_place_plain : (i : List (List ℕ)) → IsInPlace g used saved i → IsLogged i → ⊥
   in_place_plain i is logged =
       let valid = all.valid in
-      let zeroth : contents_of i 0 ≡ saved 0 = is 0 (omega (arith, valid.enough)) all.zeroth in
+      let zeroth : contents_of i 0 ≡ saved 0 = is 0 (omega (arith, valid.enough)) (inl refl) in
       (subst IsPlain (sym zeroth) all.plain) logged
 
   restores : (i j : List (List ℕ)) → HasCheckpoint g used saved i → IsLogged i → Whole g i j → RolledBack j
@@ -47,7 +47,7 @@ module _ (g : Geometry) (used : ℕ → Bool) (saved : Contents) (all : IsCheckp
       back x here u = made.now x here ∙ ap (λ (logs : List Generation). contents_of i (base logs x)) same ∙ k.kept x here u
 
   survives : (i j : List (List ℕ)) → HasCheckpoint g used saved i → IsLogged i → CutOf g i j → HasCheckpoint g used saved j
-  survives i j held logged cut = (cut.1, passed_holds g all.valid used saved all.zeroth all.plain i j held.0 cut.0 held.1)
+  survives i j held logged cut = (cut.1, passed_holds g all.valid used saved all.plain i j held.0 cut.0 held.1)
 
   settles : (i : List (List ℕ)) → HasCheckpoint g used saved i → (IsLogged i → ⊥) → RolledBack i
   settles i (whole, inl k) plain = absurd (plain_unsound g all.valid i whole plain k.log k.older k.sound)

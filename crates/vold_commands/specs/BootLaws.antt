@@ -1,10 +1,11 @@
 -- What boots over the restorer come to, one after another.
-use Rattle.std.specs.Prelude.{◌≡◌, ◌≢◌, ◌⊎◌, ℕ, ◌<◌, Bool, true, List, Option, None, Some}
+use Rattle.std.specs.Prelude.{◌≡◌, ◌≢◌, ◌⊎◌, ℕ, ◌<◌, Bool, List, Option, None, Some}
 use Rattle.bow_units.specs.declared.sizes.Geometry.{Geometry}
 use Rattle.bow_units.specs.Sizes.{IsValid}
 use Rattle.bow_disk.specs.Disk.{IsImage}
 use Rattle.bow_chain.specs.Contents.{Contents, contents_of}
 use Rattle.bow_chain.specs.Kept.{IsPlain, Holds}
+use Rattle.bow_chain.specs.Counting.{InUse}
 use Rattle.bow_restore.specs.Rewinds.{PassesOn}
 use Rattle.vold_meta.specs.Attempts.{text_of, Tells}
 use Rattle.vold_commands.specs.Attempts.{marked}
@@ -15,7 +16,7 @@ use Rattle.vold_commands.specs.declared.boots.Booted.TheVariants.{Plain, RolledB
 
 -- the image has the checkpoint in place
 abbrev pub IsInPlace : Geometry → (ℕ → Bool) → Contents → List (List ℕ) → Type 0
-IsInPlace g used saved i = (x : ℕ) → x < g.blocks → used x ≡ true → contents_of i x ≡ saved x
+IsInPlace g used saved i = (x : ℕ) → x < g.blocks → InUse used x → contents_of i x ≡ saved x
 
 -- an image of the device that holds the checkpoint: it keeps it behind a log in block 0, or has it in place
 abbrev pub HasCheckpoint : Geometry → (ℕ → Bool) → Contents → List (List ℕ) → Type 0
@@ -30,10 +31,9 @@ abbrev pub CallsAreCut : Type 0
 CallsAreCut = (g : Geometry) (i j : List (List ℕ)) (k l : Option (List ℕ)) → IsImage g.block_size g.blocks j
     → CutBoot (Whole g) (PassesOn g) i k j l → CutBoot (Whole g) (CutOf g) i k j l
 
--- what is asked of the checkpoint: block 0 is used, and was saved without a magic
+-- what is asked of the checkpoint, on a device of valid sizes: block 0 was saved without a magic
 pub record IsCheckpoint (g : Geometry) (used : ℕ → Bool) (saved : Contents) : Type 0 where
   pub valid : IsValid g
-  pub zeroth : used 0 ≡ true
   pub plain : IsPlain (saved 0)
 
 -- a boot that ends well has the checkpoint in place and no log left; it answers and keeps what the marked attempts say

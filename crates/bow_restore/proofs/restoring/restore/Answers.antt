@@ -83,15 +83,15 @@ pub returns-clause-cuts : goal.returns-clause-cuts
 returns-clause-cuts g c k is = cuts g (goal.at.returns-clause-cuts g c).After-restore_flushed k is
 
 pub returns-clause-holds : goal.returns-clause-holds
-returns-clause-holds g c k is used saved zeroth p all cut left =
+returns-clause-holds g c k is used saved p all cut left =
     let q = (goal.at.returns-clause-holds g c).After-restore_flushed in
     ⊎_elim (λ past. all cut (g.met.D.Disk.only_now c.args.disk.now k is (g.D.Disk.moment c.args.disk.now) cut (omega arith) past))
-    (λ on. passed_holds c.args.geometry c.requires.valid used saved zeroth p k.now cut (now_image c.args.geometry.block_size c.args.geometry.blocks k (fits g q k is)) on (all k.now (now_is_crash c.args.geometry k (fits g q k is)))) ((cuts g q k is).only (g.D.Disk.moment c.args.disk.now) cut (omega arith) left)
+    (λ on. passed_holds c.args.geometry c.requires.valid used saved p k.now cut (now_image c.args.geometry.block_size c.args.geometry.blocks k (fits g q k is)) on (all k.now (now_is_crash c.args.geometry k (fits g q k is)))) ((cuts g q k is).only (g.D.Disk.moment c.args.disk.now) cut (omega arith) left)
 
 pub returns-clause-back : goal.returns-clause-back
-returns-clause-back g c k is used saved zeroth p all =
+returns-clause-back g c k is used saved p all =
     let q = (goal.at.returns-clause-back g c).After-restore_flushed in
-    ends_back c.args.geometry c.requires.valid used saved zeroth p g.D.Disk.content c.restore_flushed.new.disk k c.args.limit c.restore_flushed.result
+    ends_back c.args.geometry c.requires.valid used saved p g.D.Disk.content c.restore_flushed.new.disk k c.args.limit c.restore_flushed.result
     (sound g q k is) (left g q k is) (head g q k is) (plain g q k is) (all k.now (now_is_crash c.args.geometry k (fits g q k is)))
 
 pub returns-clause-settled : goal.returns-clause-settled

@@ -9,7 +9,7 @@ returns-clause-back g c k is f all =
     let geo = c.args.geometry in
     let fits : Fits geo k = g.met.D.Disk.shaped c.args.disk.now k is geo c.requires.sizes in
     let back = held_from_any_cut geo f k.now (all k.now (now_is_crash geo k fits)) in
-    c.restore.ensures.back k is f.used f.saved back.used_0 back.plain (λ image crash. (held_from_any_cut geo f image (all image crash)).holds)
+    c.restore.ensures.back k is f.used f.saved back.plain (λ image crash. (held_from_any_cut geo f image (all image crash)).holds)
 
 pub returns-clause-cuts : goal.returns-clause-cuts
 returns-clause-cuts g c k new is told f all cut left =

@@ -86,7 +86,7 @@ returns-clause-texts g c k is =
     (IsPutBack geo g.D.Disk.content c.args.disk.now c.put_back.new.disk) back k is c.in-Ok.ensures.runs c.end.ensures.step c.end.ensures.time
 
 pub returns-clause-in_place : goal.returns-clause-in_place
-returns-clause-in_place g c d told used saved zeroth plain all = ends_in_place c.end.result (c.in-Ok-put_back.ensures.in_place d told used saved zeroth plain all)
+returns-clause-in_place g c d told used saved plain all = ends_in_place c.end.result (c.in-Ok-put_back.ensures.in_place d told used saved plain all)
 
 pub returns-clause-answer : goal.returns-clause-answer
 returns-clause-answer g c = boot_answers c.in-Ok.attempts c.in-Ok-put_back.logged c.end.result c.in-Ok.ensures.answer c.end.ensures.answer

@@ -23,7 +23,7 @@ returns-clause-back g c k is =
     (l.only (D.moment old) m.now (omega arith) (g.met.D.Disk.counts_now new m told (D.moment old) m.now (omega (arith, later)) (now_is_crash geo m fit))))
 
 pub returns-clause-in_place : goal.returns-clause-in_place
-returns-clause-in_place g c k is used saved zeroth plain all =
+returns-clause-in_place g c k is used saved plain all =
     let D = g.D.Disk in
     let r = c.restore-answer.ensures in
-    in_place c.args.geometry D.content c.restore-answer.new.disk used saved c.restore-answer.result (D.faults c.args.disk.now) (D.faults c.restore-answer.new.disk) c.told.result c.told.ensures r.cause (r.back k is used saved zeroth plain all)
+    in_place c.args.geometry D.content c.restore-answer.new.disk used saved c.restore-answer.result (D.faults c.args.disk.now) (D.faults c.restore-answer.new.disk) c.told.result c.told.ensures r.cause (r.back k is used saved plain all)
