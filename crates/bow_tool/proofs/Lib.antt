@@ -1,6 +1,10 @@
 mod Booting
 mod Checking
+mod Cutting
+mod Drilling
 mod Imaging
+mod Making
+mod Patterns
 mod Playing
 mod Ranges
 mod Running

@@ -22,7 +22,7 @@ use Rattle.vold_commands.specs.declared.boots.Booted.{Booted}
 use Rattle.vold_commands.specs.declared.boots.BootFault.{BootFault}
 use Rattle.vold_commands.specs.declared.boots.BootFault.TheVariants as boots
 use Rattle.bow_words.specs.declared.commands.Command.{Command}
-use Rattle.bow_words.specs.declared.commands.Command.TheVariants.{Play, Run, Restore, Check, Forward, Start, Mark, NeedsCheckpoint, NeedsRollback, Abort, Boot}
+use Rattle.bow_words.specs.declared.commands.Command.TheVariants.{Play, Run, Restore, Check, Forward, Start, Mark, NeedsCheckpoint, NeedsRollback, Abort, Boot, Drill}
 use Rattle.bow_words.specs.Words.{AskForOne, Asks}
 use Rattle.bow_tool.specs.declared.refusals.Refusal.{Refusal}
 use Rattle.bow_tool.specs.declared.refusals.Refusal.TheVariants.{BadWords, BadScript, SourceFault, DiskFault, KeeperFault, NeedsRestore, BadChain, BadHeader, Reserved, BadAttempts, NoMemory, Stopped, BadGeometry}
@@ -244,6 +244,7 @@ no_fault NeedsCheckpoint c text order failed = failed
 no_fault NeedsRollback c text order failed = failed
 no_fault (Abort retry) c text order failed = failed
 no_fault Boot c text order failed = failed
+no_fault (Drill number) c text order failed = failed
 
 -- where nothing outside stands in the way of a command, only want of memory refuses it, or its limit
 pub command_ends : FaultyIsNotSound → (command : Command) (c : Call) (refusal : Refusal) → CommandInOrder command c → CommandCause command c refusal → Ends (MayStop command) refusal
@@ -258,6 +259,7 @@ command_ends law NeedsCheckpoint c refusal order cause = attempts_end (MayStop N
 command_ends law NeedsRollback c refusal order cause = attempts_end (MayStop NeedsRollback) (WasAsked c.keepers needs_rollback c.keeper c.keeper_after) (c.keepers.faults c.keeper) (c.keepers.faults c.keeper_after) refusal (question_reads c needs_rollback order) order.holds cause.1
 command_ends law (Abort retry) c refusal order cause = attempts_end (MayStop (Abort retry)) (RanStep c.keepers (aborted retry) c.keeper c.keeper_after) (c.keepers.faults c.keeper) (c.keepers.faults c.keeper_after) refusal (step_reads c (aborted retry) order) order.holds cause.1
 command_ends law Boot c refusal order cause = boot_ends law (MayStop Boot) c refusal order.0 order.1 cause
+command_ends law (Drill number) c refusal order cause = inl (ap status_of cause.1)
 
 none_five : (status : ℕ) → status ≡ 0 → status ≡ 5 → ⊥
 none_five status zero five = omega (arith, zero, five)

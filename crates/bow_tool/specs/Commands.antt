@@ -14,7 +14,7 @@ use Rattle.bow_restore.specs.Forwarding.{named_by}
 use Rattle.vold_commands.specs.Attempts.{marked, aborted, needs_checkpoint, needs_rollback, most_retries}
 use Rattle.bow_restore.specs.Limits.{IsLimit}
 use Rattle.bow_words.specs.declared.commands.Command.{Command}
-use Rattle.bow_words.specs.declared.commands.Command.TheVariants.{Play, Run, Restore, Check, Forward, Start, Mark, NeedsCheckpoint, NeedsRollback, Abort, Boot}
+use Rattle.bow_words.specs.declared.commands.Command.TheVariants.{Play, Run, Restore, Check, Forward, Start, Mark, NeedsCheckpoint, NeedsRollback, Abort, Boot, Drill}
 use Rattle.bow_words.specs.Words.{Asks}
 use Rattle.bow_tool.specs.declared.outcomes.Outcome.{Outcome}
 use Rattle.bow_tool.specs.declared.outcomes.Outcome.TheVariants as outcome
@@ -27,6 +27,7 @@ use Rattle.bow_tool.specs.Check.{CheckText, CheckCause, ImageInOrder}
 use Rattle.bow_tool.specs.Restores.{RestoreText, RestoreCause, ForwardText, ForwardCause}
 use Rattle.bow_tool.specs.Attempts.{AttemptsInOrder, KeeperHolds, QuestionCause, QuestionText, StartRefusal, StartText, StepCause, StepText}
 use Rattle.bow_tool.specs.Boots.{BootCause, BootText}
+use Rattle.bow_tool.specs.Drills.{TellsDrill}
 
 -- the numbers of the command are in their ranges: 1 to 8 servers, a limit of at least 1, at most 2147483646 retries
 abbrev pub IsInRange : Command → Type 0
@@ -53,6 +54,7 @@ DoneText NeedsCheckpoint c text = QuestionText needs_checkpoint c text
 DoneText NeedsRollback c text = QuestionText needs_rollback c text
 DoneText (Abort retry) c text = StepText (aborted retry) c text
 DoneText Boot c text = BootText c text
+DoneText (Drill number) c text = AllLeft c × TellsDrill number text
 
 -- why the command is refused
 abbrev pub CommandCause : Command → Call → Refusal → Type 0
@@ -67,6 +69,7 @@ CommandCause NeedsCheckpoint c refusal = QuestionCause needs_checkpoint c refusa
 CommandCause NeedsRollback c refusal = QuestionCause needs_rollback c refusal
 CommandCause (Abort retry) c refusal = StepCause (aborted retry) c refusal
 CommandCause Boot c refusal = BootCause c refusal
+CommandCause (Drill number) c refusal = AllLeft c × (refusal ≡ NoMemory)
 
 -- the command was done, but the keeper failed to remove the attempts after it: so a script's run may end
 abbrev pub NotClearedText : Command → Call → List ℕ → Type 0
@@ -107,6 +110,7 @@ CommandInOrder NeedsCheckpoint c = AttemptsInOrder c
 CommandInOrder NeedsRollback c = AttemptsInOrder c
 CommandInOrder (Abort retry) c = AttemptsInOrder c
 CommandInOrder Boot c = ImageInOrder c × AttemptsInOrder c
+CommandInOrder (Drill number) c = Unit {0}
 
 -- it may stop at a limit
 abbrev pub MayStop : Command → Type 0

@@ -2,6 +2,7 @@ pub mod Attempts
 pub mod Boots
 pub mod Check
 pub mod Commands
+pub mod Drills
 pub mod Outcomes
 pub mod Outside
 pub mod Play

@@ -4,6 +4,7 @@ use Rattle.bow_tool.specs.declared.outcomes.Outcome.{Outcome}
 use Rattle.bow_tool.specs.declared.outcomes.Outcome.TheVariants.{Done, Refused, NotCleared}
 use Rattle.bow_tool.specs.declared.refusals.Refusal.TheVariants.{KeeperFault, NoMemory}
 use Rattle.bow_tool.specs.Refusals.{refusal_line}
+use Rattle.bow_tool.specs.Drills.{TellsDrill}
 
 -- the transcript is told, with the line of the keeper's fault where the attempts were not cleared; or there was no
 -- memory for that line
@@ -13,3 +14,9 @@ IsTranscriptTold text false (Done told) = ⊥
 IsTranscriptTold text true (NotCleared told) = ⊥
 IsTranscriptTold text false (NotCleared told) = told.items ≡ text ++ refusal_line KeeperFault
 IsTranscriptTold text cleared (Refused refusal) = refusal ≡ NoMemory
+
+-- a drill of this number is told; or there was no memory for it
+abbrev pub IsDrillTold : ℕ → Outcome → Type 0
+IsDrillTold number (Done told) = TellsDrill number told.items
+IsDrillTold number (NotCleared told) = ⊥
+IsDrillTold number (Refused refusal) = refusal ≡ NoMemory

@@ -5,6 +5,11 @@
 mod attempts;
 mod boots;
 mod checks;
+mod drill_cuts;
+mod drill_disks;
+mod drill_lines;
+mod drill_plays;
+mod drills;
 mod lines;
 mod outcomes;
 mod plays;
@@ -15,5 +20,6 @@ mod streams;
 mod tools;
 
 pub use bow_words::Command;
+pub use drills::{Drilled, drill};
 pub use refusals::Refusal;
 pub use tools::{Ended, manage, tool};

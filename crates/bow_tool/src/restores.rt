@@ -52,7 +52,7 @@ pub(crate) fn forward_image<D: Disk>(alloc: Global, disk: &mut D) -> Result<Vec<
 }
 
 // The line of a restoration that ended well; each other answer is a refusal.
-fn told_restored(alloc: Global, answer: Restored) -> Result<Vec<u8>, Refusal>
+pub(crate) fn told_restored(alloc: Global, answer: Restored) -> Result<Vec<u8>, Refusal>
     ensures { MatchResult result (λ text. IsRestoredLine answer text.items) (IsRestoreRefusal answer) }
 {
     match answer {

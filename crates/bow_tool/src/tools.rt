@@ -8,6 +8,7 @@ ghost use Rattle.bow_tool.specs.Commands.{IsInRange, IsManaged, IsOutcome, IsOut
 use crate::attempts::{told_answer, told_attempts, told_start};
 use crate::boots::boot_image;
 use crate::checks::check;
+use crate::drills::make_drill;
 use crate::outcomes::{Outcome, outcome_of};
 use crate::plays::{play_script, run_script};
 use crate::refusals::Refusal;
@@ -91,6 +92,7 @@ pub fn tool<
 /// | `Start`, `Mark`, `Abort` | the keeper | `attempts A`, or `no attempts` |
 /// | `NeedsCheckpoint`, `NeedsRollback` | the keeper, which it only reads | `yes` or `no` |
 /// | `Boot` | the disk, the keeper, the disk | `plain`, `checkpointing M`, or `rolled back` |
+/// | `Drill` | nothing of what it is given | the five lines of `drill` |
 ///
 /// | Status | Line | Comes |
 /// |---|---|---|
@@ -293,5 +295,6 @@ fn obey<D: Disk, K: Keeper, S: Source>(
             let answer = needs_rollback(&mut keeper);
             (outcome_of(told_answer(alloc, answer)), disk, keeper)
         }
+        Command::Drill(number) => (make_drill(alloc, number), disk, keeper),
     }
 }

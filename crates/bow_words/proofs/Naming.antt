@@ -5,7 +5,7 @@ use Rattle.clap.specs.Words.{Text}
 use Rattle.bow_words.specs.Names.{text_of}
 use Rattle.bow_words.specs.Words.{name_of}
 use Rattle.bow_words.specs.declared.names.Name.{Name}
-use Rattle.bow_words.specs.declared.names.Name.TheVariants.{Play, Run, Restore, Check, Forward, Start, Mark, NeedsCheckpoint, NeedsRollback, Abort, Boot}
+use Rattle.bow_words.specs.declared.names.Name.TheVariants.{Play, Run, Restore, Check, Forward, Start, Mark, NeedsCheckpoint, NeedsRollback, Abort, Boot, Drill}
 use Rattle.bow_words.specs.declared.commands.Command.{Command}
 use Rattle.bow_words.specs.declared.commands.Command.TheVariants as command
 
@@ -16,7 +16,7 @@ told_by n =
     else (if n == 100 * 114 + 3 then Run
     else (if n == 100 * 102 + 7 then Forward else (if n == 100 * 115 + 5 then Start else (if n == 100 * 109 + 4 then Mark
     else (if n == 100 * 110 + 16 then NeedsCheckpoint else (if n == 100 * 110 + 14 then NeedsRollback
-    else (if n == 100 * 97 + 5 then Abort else Boot)))))))))
+    else (if n == 100 * 97 + 5 then Abort else (if n == 100 * 100 + 5 then Drill else Boot))))))))))
 
 abbrev number_of : Text → ℕ
 number_of word = 100 * get_or word 0 0 + length word
@@ -33,6 +33,7 @@ told NeedsCheckpoint = refl
 told NeedsRollback = refl
 told Abort = refl
 told Boot = refl
+told Drill = refl
 
 -- names with one word are one name
 pub same_name : (a b : Name) → text_of a ≡ text_of b → a ≡ b
@@ -51,6 +52,7 @@ kind_of command.NeedsCheckpoint = NeedsCheckpoint
 kind_of command.NeedsRollback = NeedsRollback
 kind_of (command.Abort retry) = Abort
 kind_of command.Boot = Boot
+kind_of (command.Drill n) = Drill
 
 -- the commands of a name
 abbrev pub IsNamed : Name → Command → Type 0
@@ -65,6 +67,7 @@ IsNamed NeedsCheckpoint c = c ≡ command.NeedsCheckpoint
 IsNamed NeedsRollback c = c ≡ command.NeedsRollback
 IsNamed Abort c = (retry : Bool) × (c ≡ command.Abort retry)
 IsNamed Boot c = c ≡ command.Boot
+IsNamed Drill c = (n : ℕ) × (c ≡ command.Drill n)
 
 pub spelled : (c : Command) → name_of c ≡ text_of (kind_of c)
 spelled (command.Play n) = refl
@@ -78,6 +81,7 @@ spelled command.NeedsCheckpoint = refl
 spelled command.NeedsRollback = refl
 spelled (command.Abort retry) = refl
 spelled command.Boot = refl
+spelled (command.Drill n) = refl
 
 pub of_kind : (c : Command) → IsNamed (kind_of c) c
 of_kind (command.Play n) = (n, refl)
@@ -91,6 +95,7 @@ of_kind command.NeedsCheckpoint = refl
 of_kind command.NeedsRollback = refl
 of_kind (command.Abort retry) = (retry, refl)
 of_kind command.Boot = refl
+of_kind (command.Drill n) = (n, refl)
 
 -- a command with the word of a name is one of that name
 pub named : (name : Name) (c : Command) → name_of c ≡ text_of name → IsNamed name c

@@ -107,6 +107,7 @@ limit_words k low high =
 
 own_words_ask : (c : Command) → IsInRange c → OwnWords (own_words c) c
 own_words_ask (command.Play n) range = number_words 0 (2 ^ 64 - 1) n (omega arith) range (omega arith)
+own_words_ask (command.Drill n) range = number_words 0 (2 ^ 64 - 1) n (omega arith) range (omega arith)
 own_words_ask (command.Run n) range = number_words 1 8 n range.0 range.1 (omega arith)
 own_words_ask (command.Restore None) range = no_limit
 own_words_ask (command.Restore (Some k)) range = limit_words k range.0 range.1
@@ -138,6 +139,7 @@ plain_words_ask (i ∷ j ∷ k ∷ word ∷ own) image attempts block c size ran
 
 own_in_range : (own : List Text) (c : Command) → OwnWords own c → IsInRange c
 own_in_range own (command.Play n) asks = asks.1.1
+own_in_range own (command.Drill n) asks = asks.1.1
 own_in_range own (command.Run n) asks = (asks.1.0, asks.1.1)
 own_in_range own (command.Restore None) asks = tt
 own_in_range own (command.Restore (Some k)) asks = (asks.1.0, asks.1.1)

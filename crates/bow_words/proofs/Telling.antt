@@ -4,7 +4,7 @@ use Rattle.std.proofs.lemmas.Fmt.{decimal_injective}
 use Rattle.clap.specs.Words.{Text}
 use Rattle.bow_words.specs.Words.{AreLimit, AreNumber, AreRetry, AskForOne, OwnWords, SpellsIn, texts_of, truth_text}
 use Rattle.bow_words.specs.declared.names.Name.{Name}
-use Rattle.bow_words.specs.declared.names.Name.TheVariants.{Play, Run, Restore, Check, Forward, Start, Mark, NeedsCheckpoint, NeedsRollback, Abort, Boot}
+use Rattle.bow_words.specs.declared.names.Name.TheVariants.{Play, Run, Restore, Check, Forward, Start, Mark, NeedsCheckpoint, NeedsRollback, Abort, Boot, Drill}
 use Rattle.bow_words.specs.declared.commands.Command.{Command}
 use Rattle.bow_words.specs.declared.commands.Command.TheVariants as command
 use Rattle.bow_words.proofs.Naming.{IsNamed, kind_of, named, of_kind, spelled}
@@ -67,6 +67,10 @@ same_own own Abort a b x y p q =
     let n : AreRetry own y.0 = subst (λ c. OwnWords own c) y.1 q in
     x.1 ∙ ap command.Abort (one_wish own x.0 y.0 m n) ∙ sym y.1
 same_own own Boot a b x y p q = x ∙ sym y
+same_own own Drill a b x y p q =
+    let m : AreNumber 0 (2 ^ 64 - 1) own x.0 = subst (λ c. OwnWords own c) x.1 p in
+    let n : AreNumber 0 (2 ^ 64 - 1) own y.0 = subst (λ c. OwnWords own c) y.1 q in
+    x.1 ∙ ap command.Drill (spells_one 0 (2 ^ 64 - 1) x.0 y.0 _ (omega arith) m.1 n.1) ∙ sym y.1
 
 pub ask_for_one : AskForOne
 ask_for_one [] a b x y = absurd x

@@ -11,6 +11,7 @@ use Rattle.bow_words.specs.Words.{Asks, IsBlockWord, name_of, texts_of}
 abbrev pub own_words : Command → List Text
 own_words (command.Play n) = decimal n ∷ []
 own_words (command.Run n) = decimal n ∷ []
+own_words (command.Drill n) = decimal n ∷ []
 own_words (command.Restore (Some k)) = codes "--limit" ∷ decimal k ∷ []
 own_words (command.Start n) = decimal n ∷ []
 own_words (command.Abort true) = codes "--retry" ∷ []
@@ -19,6 +20,7 @@ own_words command = []
 -- the numbers of a command are those that it may have
 abbrev pub IsInRange : Command → Type 0
 IsInRange (command.Play n) = n ≤ 2 ^ 64 - 1
+IsInRange (command.Drill n) = n ≤ 2 ^ 64 - 1
 IsInRange (command.Run n) = (1 ≤ n) × (n ≤ 8)
 IsInRange (command.Restore (Some k)) = (1 ≤ k) × (k ≤ 2 ^ 32 - 1)
 IsInRange (command.Start n) = n ≤ 2 ^ 31 - 2

@@ -85,10 +85,12 @@ name_of command.NeedsCheckpoint = codes "needs-checkpoint"
 name_of command.NeedsRollback = codes "needs-rollback"
 name_of (command.Abort retry) = codes "abort"
 name_of command.Boot = codes "boot"
+name_of (command.Drill n) = codes "drill"
 
 -- a command's own words
 abbrev pub OwnWords : List Text → Command → Type 0
 OwnWords own (command.Play n) = AreNumber 0 (2 ^ 64 - 1) own n
+OwnWords own (command.Drill n) = AreNumber 0 (2 ^ 64 - 1) own n
 OwnWords own (command.Run n) = AreNumber 1 8 own n
 OwnWords own (command.Restore limit) = AreLimit own limit
 OwnWords own (command.Start n) = AreNumber 0 (2 ^ 31 - 2) own n

@@ -34,6 +34,8 @@ pub enum Command {
     Abort(bool),
     /// Use up an attempt, put the checkpoint back where one is kept, and tell how the system boots.
     Boot,
+    /// Make the drill of this number, on a disk of its own.
+    Drill(u64),
 }
 
 /// Reads the words after the program's name: `IMAGE ATTEMPTS BLOCK COMMAND` and the command's own words. BLOCK is
@@ -42,7 +44,7 @@ pub enum Command {
 ///
 /// | COMMAND | Own words |
 /// |---|---|
-/// | `play` | a number below 2^64 |
+/// | `play`, `drill` | a number below 2^64 |
 /// | `run` | a number from 1 to 8 |
 /// | `restore` | none, or `--limit K` with K from 1 to 4294967295 |
 /// | `start` | a number from 0 to 2147483646 |
@@ -85,6 +87,7 @@ fn read_own(alloc: Global, name: Name, own: &[String]) -> Result<Command, WordsF
         Name::NeedsCheckpoint => bare(alloc, own, Command::NeedsCheckpoint),
         Name::NeedsRollback => bare(alloc, own, Command::NeedsRollback),
         Name::Boot => bare(alloc, own, Command::Boot),
+        Name::Drill => { Ok(Command::Drill(read_number_in(alloc, own, 0, 0xffff_ffff_ffff_ffff)?)) }
     }
 }
 

@@ -17,6 +17,7 @@ pub(crate) enum Name {
     NeedsRollback,
     Abort,
     Boot,
+    Drill,
 }
 
 /// The name that a word is, and `None` where it is no command's name.
@@ -36,6 +37,7 @@ pub(crate) fn read_name(word: &str) -> Option<Name>
         "needs-rollback" => Some(Name::NeedsRollback),
         "abort" => Some(Name::Abort),
         "boot" => Some(Name::Boot),
+        "drill" => Some(Name::Drill),
         _ => None,
     }
 }
