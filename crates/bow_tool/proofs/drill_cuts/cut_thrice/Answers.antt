@@ -1,4 +1,4 @@
-use Rattle.std.proofs.Common.{◌≡◌, ◌*◌, ◌∙◌, length, ap, subst}
+use Rattle.std.proofs.Common.{◌*◌, ◌∙◌, ap}
 use Rattle.bow_units.specs.declared.sizes.Geometry.{Geometry}
 use Rattle.bow_disk.specs.Bytes.{image_of}
 use Rattle.bow_disk.specs.Memory.{content}

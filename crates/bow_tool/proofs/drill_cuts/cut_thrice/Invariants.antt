@@ -1,4 +1,4 @@
-use Rattle.std.proofs.Common.{◌≡◌, ◌*◌, ◌≤◌, length}
+use Rattle.std.proofs.Common.{◌≡◌, ◌*◌, length}
 use Rattle.bow_disk.specs.Bytes.{image_of}
 use Rattle.bow_disk.specs.Memory.{content}
 use Rattle.bow_tool.specs.Drills.{IsRerunFrom, drill_sizes}

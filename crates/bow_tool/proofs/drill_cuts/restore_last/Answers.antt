@@ -1,4 +1,4 @@
-use Rattle.std.proofs.Common.{◌≡◌, ◌∙◌, None, ap, refl, subst, subst₂, sym, rules}
+use Rattle.std.proofs.Common.{◌≡◌, ◌∙◌, ap, refl, subst, subst₂, sym, rules}
 use Rattle.bow_disk.specs.Bytes.{image_of}
 use Rattle.bow_disk.specs.Memory.{content}
 use Rattle.bow_chain.specs.Contents.{contents_of}

@@ -1,4 +1,4 @@
-use Rattle.std.proofs.Common.{◌≡◌, ◌∙◌, ap, arith}
+use Rattle.std.proofs.Common.{◌∙◌, ap, arith}
 use Rattle.bow_units.specs.Pattern.{pattern}
 use Rattle.bow_tool.proofs.Patterns.{drill_bytes, drill_disk_made, pattern_bytes, pattern_bytes_more}
 use Rattle.bow_tool.proofs.drill_disks.drill_disk.Goals as goal

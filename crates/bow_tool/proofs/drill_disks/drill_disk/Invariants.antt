@@ -1,4 +1,4 @@
-use Rattle.std.proofs.Common.{◌≡◌, length}
+use Rattle.std.proofs.Common.{◌≡◌}
 use Rattle.bow_tool.proofs.Patterns.{pattern_bytes}
 use Rattle.bow_tool.proofs.drill_disks.drill_disk.Given as goal
 

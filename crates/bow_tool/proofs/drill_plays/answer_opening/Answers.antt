@@ -1,4 +1,4 @@
-use Rattle.std.proofs.Common.{◌≡◌, ◌<◌, ◌∙◌, sym, ap, subst, refl}
+use Rattle.std.proofs.Common.{◌<◌, ◌∙◌, sym, ap, subst, refl}
 use Rattle.bow_session.specs.Runs.{begun_over}
 use Rattle.bow_session.specs.Sessions.{plan_in}
 use Rattle.bow_session.specs.Sessions.{Run}

@@ -1,4 +1,4 @@
-use Rattle.std.proofs.Common.{◌≡◌, ◌∙◌, inl, inr, sym, ap, subst, refl, arith}
+use Rattle.std.proofs.Common.{◌∙◌, inl, inr, sym, ap, subst, refl, arith}
 use Rattle.bow_session.specs.Sessions.{IsOver, Run, plan_in}
 use Rattle.bow_session.proofs.Cutting.{plan_stays}
 use Rattle.bow_tool.proofs.Drilling.{draws_none, drew_on, still_draws}

@@ -1,13 +1,11 @@
-use Rattle.std.proofs.Common.{◌≡◌, ◌∙◌, ap, subst, sym, List, ℕ, None, ◌∷◌}
-use Rattle.bow_units.specs.declared.requests.Phase.TheVariants.{Checkpoint}
+use Rattle.std.proofs.Common.{◌≡◌, ◌∙◌, ap, subst, sym, List, None, ◌∷◌}
 use Rattle.bow_units.specs.declared.statuses.Status.{Status}
 use Rattle.bow_disk.specs.Bytes.{image_of}
-use Rattle.bow_disk.specs.Memory.{Memory, State, content}
+use Rattle.bow_disk.specs.Memory.{Memory, content}
 use Rattle.bow_log.specs.Generations.{Generation}
 use Rattle.bow_chain.specs.Contents.{contents_of}
 use Rattle.bow_chain.specs.Sound.{IsSound}
 use Rattle.bow_machine.specs.Shown.{status_of}
-use Rattle.bow_history.specs.declared.items.Item.{Item}
 use Rattle.std.specs.List.{list_any}
 use Rattle.bow_restore.specs.Answers.{TellsHead, TellsSound}
 use Rattle.bow_script.specs.Drills.{after, drill_script_of, used_blocks}
