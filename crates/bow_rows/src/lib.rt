@@ -9,6 +9,8 @@ mod chains;
 #[cfg(test)]
 mod device;
 #[cfg(test)]
+mod drills;
+#[cfg(test)]
 mod images;
 #[cfg(test)]
 mod phases;

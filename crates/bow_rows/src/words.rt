@@ -40,6 +40,7 @@ fn words_ask_for_commands(rt: HostRuntime) -> Result<(), Fail> {
         ("i|a|512|abort", Command::Abort(false)),
         ("i|a|512|abort|--retry", Command::Abort(true)),
         ("i|a|512|boot", Command::Boot),
+        ("i|a|512|drill|7", Command::Drill(7)),
     ] {
         assert_eq!(rt; asked(rt.alloc(), line)?, Ok(command));
     }
@@ -81,7 +82,8 @@ fn other_words_ask_for_nothing(rt: HostRuntime) -> Result<(), Fail> {
         "i|a|512|run|0",
         "i|a|512|run|9",
         "i|a|512|run",
-        "i|a|512|drill|7",
+        "i|a|512|drill",
+        "i|a|512|drill|07",
     ] {
         assert_eq!(rt; asked(rt.alloc(), line)?, Err(WordsFault::BadWords));
     }
