@@ -1,5 +1,6 @@
 -- A boot of the disk that was given, whose sizes were asked first.
 use Rattle.std.proofs.Common.{◌≡◌, inr, ℕ, ◌≤◌, Bool, List, Some, Result, Ok, Err, IfOk, IfErr, MatchResult, sym, ◌∙◌, subst}
+use Rattle.std.specs.Prelude.{IsOk}
 use Rattle.bow_units.specs.declared.sizes.Geometry.{Geometry}
 use Rattle.bow_disk.specs.Disk.{Content}
 use Rattle.bow_disk.specs.Moments.{Tells}
@@ -11,7 +12,7 @@ use Rattle.bow_tool.specs.declared.refusals.Refusal.{Refusal}
 use Rattle.bow_tool.specs.Outside.{DiskView, KeeperView}
 use Rattle.bow_tool.specs.Sizes.{HasSizes, OnlySizes}
 use Rattle.bow_tool.specs.Boots.{BootRefused, BootWith, IsBooted, IsBootRefusal, IsBootedLine}
-use Rattle.bow_tool.proofs.Imaging.{content_kept, cuts_since, rose_since}
+use Rattle.bow_tool.proofs.Imaging.{content_kept, cuts_since, recovered_since, rose_since}
 
 boot_cause : (k l a b c : ℕ) (r : Result Booted BootFault) → a ≤ b → IsBootCaused k l b c r → IsBootCaused k l a c r
 boot_cause k l a b c (Ok booted) later is = is
@@ -35,6 +36,7 @@ booted_since v w g old mid new from to r asked did =
       cuts = λ c is. cuts_since v _ old mid new asked (did.cuts c (same ∙ is));
       holds = λ c is used saved plain held cut left. did.holds c (same ∙ is) used saved plain held cut (since cut left);
       in_place = λ c is. did.in_place c (same ∙ is);
+      recovered = λ c is kept told p n first k sizes left. recovered_since v g p n first k (IsOk r) old mid new asked (did.recovered c (same ∙ is) kept told p n first k sizes left);
     }
 
 pub boot_text : {D K T : Type 0} (v : DiskView D) (w : KeeperView K) (old new : D) (from to : K) (items : T → List ℕ)

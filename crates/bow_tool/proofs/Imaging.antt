@@ -10,6 +10,8 @@ use Rattle.bow_restore.specs.declared.answers.Restored.{Restored}
 use Rattle.bow_restore.specs.declared.answers.Restored.TheVariants as restored
 use Rattle.bow_restore.specs.declared.answers.Forwarded.{Forwarded}
 use Rattle.bow_restore.specs.declared.answers.Forwarded.TheVariants as forwarded
+use Rattle.bow_promise.specs.Cutting.{Play, IsCutOf}
+use Rattle.bow_promise.specs.Recovering.{HasEndedWell, IsRecovered}
 use Rattle.bow_tool.specs.declared.refusals.Refusal.{Refusal}
 use Rattle.bow_tool.specs.Outside.{DiskView}
 use Rattle.bow_tool.specs.Sizes.{HasSizes, OnlySizes}
@@ -43,6 +45,15 @@ restore_cause limit a b c (restored.BadChain fault) later is = is
 restore_cause limit a b c restored.DiskFault later is = rose_since a b c later is
 restore_cause limit a b c restored.NoMemory later is = is
 
+-- what restores what a play left, does so since the sizes were asked
+pub recovered_since : {D : Type 0} (v : DiskView D) (g : Geometry) (p : Play) (n : ℕ) (first : List (List ℕ)) (k : IsCutOf p n first) (ended_well : Type 0) (old mid new : D)
+    → OnlySizes v old mid → IsRecovered v.content v.moment v.left_since g p n first k ended_well mid new → IsRecovered v.content v.moment v.left_since g p n first k ended_well old new
+recovered_since v g p n first k ended_well old mid new asked did = record {
+  fulfils = did.fulfils;
+  cuts = λ d is image left. did.cuts d is image (subst (λ t. v.left_since new t image) (sym asked.moment) left);
+  leaves = did.leaves;
+}
+
 pub restored_since : {D : Type 0} (v : DiskView D) (g : Geometry) (limit : Option ℕ) (old mid new : D) (answer : Restored)
     → OnlySizes v old mid → IsRestored v g limit mid new answer → IsRestored v g limit old new answer
 restored_since v g limit old mid new answer asked did =
@@ -60,6 +71,7 @@ restored_since v g limit old mid new answer asked did =
       settled = λ c is settled cut left. did.settled c (same ∙ is) settled cut (since cut left);
       holds = λ c is used saved plain held cut left. did.holds c (same ∙ is) used saved plain held cut (since cut left);
       back = λ c is. did.back c (same ∙ is);
+      recovered = λ c is p n first k sizes left. recovered_since v g p n first k (HasEndedWell answer) old mid new asked (did.recovered c (same ∙ is) p n first k sizes left);
     }
 
 forward_reason : (a b c : ℕ) (answer : Forwarded) → a ≤ b → HasReason b c answer → HasReason a c answer

@@ -12,6 +12,10 @@ use Rattle.bow_play.specs.Beginning.{HasBegun}
 use Rattle.bow_play.specs.Reading.{GaveScript}
 use Rattle.bow_play.specs.declared.faults.PlayFault.TheVariants as plays
 use Rattle.bow_play.proofs.Ends.{ahead, faults_told, leads, ran_on, sizes_told}
+use Rattle.bow_guard.specs.Standing.{StandsFor}
+use Rattle.bow_play.specs.Leading.{PlayLeads}
+use Rattle.bow_promise.proofs.Played.{plays_are_promised}
+use Rattle.bow_promise.proofs.Spaced.{plays_find_no_space_truly}
 use Rattle.bow_tool.specs.Outside.{Call, KeeperLeft}
 use Rattle.bow_tool.specs.Play.{WasNotPlayed, WasRun}
 
@@ -25,18 +29,25 @@ module _ (c : Call) (begun : Run c.Disk) (b : HasBegun c.disks.stated c.disks.co
       → ((d : c.Disk) (k : Content) → c.disks.content d ≡ Some k → (t : ℕ) (image : List (List ℕ)) → t ≤ c.disks.moment d → IsCrash k.candidates image → c.disks.left_since d t image)
       → ((d : c.Disk) (k : Content) → c.disks.content d ≡ Some k → (t : ℕ) (image : List (List ℕ)) → c.disks.moment d ≤ t → c.disks.left_since d t image → IsCrash k.candidates image)
       → WasRun c s
-  was_run s given script disk loaded over idle buffers complete shaped cuts_shaped counts_now only_now = record {
-    given = subst (λ (x : List (List (List Line))). GaveScript (c.sources.left c.source) (c.sources.left c.source_after) x) (sym script) given;
-    disk = disk;
-    sizes = sizes_told c.disks.stated c.disks.content c.disks.moment c.disks.left_since c.disks.faults c.disk begun b s loaded;
-    over = over;
-    complete = complete;
-    ran = ran_on c.disks.stated c.disks.content c.disks.moment c.disks.left_since c.disks.faults c.disk begun b s loaded;
-    faults = faults_told c.disks.stated c.disks.content c.disks.moment c.disks.left_since c.disks.faults c.disk begun b s loaded;
-    plain = λ k is. (b.found k is).plain;
-    leads = λ k is. leads c.disks.stated c.disks.content c.disks.moment c.disks.left_since c.disks.faults c.disk begun b s loaded shaped cuts_shaped counts_now only_now idle buffers k is;
-    ahead = λ k is. ahead c.disks.stated c.disks.content c.disks.moment c.disks.left_since c.disks.faults c.disk begun b s loaded shaped cuts_shaped counts_now only_now idle buffers k is;
-  }
+  was_run s given script disk loaded over idle buffers complete shaped cuts_shaped counts_now only_now =
+      let sizes = sizes_told c.disks.stated c.disks.content c.disks.moment c.disks.left_since c.disks.faults c.disk begun b s loaded in
+      let ran = ran_on c.disks.stated c.disks.content c.disks.moment c.disks.left_since c.disks.faults c.disk begun b s loaded in
+      let led : (k : Content) → c.disks.content c.disk ≡ Some k → PlayLeads c.disks.content c.disks.moment c.disks.left_since (StandsFor s.core.geometry) c.disk k s =
+      λ k is. leads c.disks.stated c.disks.content c.disks.moment c.disks.left_since c.disks.faults c.disk begun b s loaded shaped cuts_shaped counts_now only_now idle buffers k is in
+      record {
+        given = subst (λ (x : List (List (List Line))). GaveScript (c.sources.left c.source) (c.sources.left c.source_after) x) (sym script) given;
+        disk = disk;
+        sizes = sizes;
+        over = over;
+        complete = complete;
+        ran = ran;
+        faults = faults_told c.disks.stated c.disks.content c.disks.moment c.disks.left_since c.disks.faults c.disk begun b s loaded;
+        plain = λ k is. (b.found k is).plain;
+        leads = led;
+        ahead = λ k is. ahead c.disks.stated c.disks.content c.disks.moment c.disks.left_since c.disks.faults c.disk begun b s loaded shaped cuts_shaped counts_now only_now idle buffers k is;
+        space = plays_find_no_space_truly c.disks.stated c.disks.content c.disks.moment c.disks.left_since c.disks.faults c.disk s sizes.1 ran;
+        promised = λ k is. plays_are_promised c.disks.stated c.disks.content c.disks.moment c.disks.left_since cuts_shaped counts_now c.disk k s (record { sizes = sizes.0; valid = sizes.1; plain = (b.found k is).plain; leads = led k is });
+      }
 
   -- a session that made no step: the disk is as the opening left it
   pub not_begun : KeeperLeft c → c.disk_after ≡ begun.core.disk → WasNotPlayed c plays.NoMemory

@@ -1,5 +1,5 @@
 -- What a boot did: its line, and why it was refused.
-use Rattle.std.specs.Prelude.{◌≡◌, ◌⊎◌, ℕ, Bool, List, ◌++◌, codes, Option, Some, Result, Ok, Err, IfOk}
+use Rattle.std.specs.Prelude.{◌≡◌, ◌⊎◌, ℕ, Bool, List, ◌++◌, codes, Option, Some, Result, Ok, Err, IfOk, IsOk}
 use Rattle.std.specs.Fmt.{decimal}
 use Rattle.bow_units.specs.declared.sizes.Geometry.{Geometry}
 use Rattle.bow_disk.specs.Disk.{Content, IsCrash}
@@ -13,13 +13,16 @@ use Rattle.vold_commands.specs.declared.boots.Booted.{Booted}
 use Rattle.vold_commands.specs.declared.boots.Booted.TheVariants.{Plain, Checkpointing, RolledBack}
 use Rattle.vold_commands.specs.declared.boots.BootFault.{BootFault}
 use Rattle.vold_commands.specs.declared.boots.BootFault.TheVariants as boots
+use Rattle.bow_promise.specs.Cutting.{Play, IsCutOf}
+use Rattle.bow_promise.specs.Recovering.{IsLeftOf, IsRecovered}
 use Rattle.bow_tool.specs.declared.refusals.Refusal.{Refusal}
 use Rattle.bow_tool.specs.declared.refusals.Refusal.TheVariants.{DiskFault, KeeperFault, BadChain, BadAttempts, NoMemory}
 use Rattle.bow_tool.specs.Outside.{Call, DiskView, KeeperView, SourceLeft}
 use Rattle.bow_tool.specs.Sizes.{HasSizes, OnlySizes, SizesCause}
 
 -- A boot of a device of these sizes ended so: what it answers and leaves; that one that failed is one that was cut;
--- what a cut leaves of the text, and of the image.
+-- what a cut leaves of the text, and of the image. After a play that was cut, and restorations and boots that were, it
+-- fulfils what is promised of that cut where it ends well; and what it leaves, cut or not, the next one may go on from.
 pub record IsBooted {D K : Type 0} (v : DiskView D) (w : KeeperView K) (g : Geometry) (old new : D) (from to : K)
     (r : Result Booted BootFault) : Type 0 where
   pub answer : IfOk r IsBootAnswer
@@ -38,6 +41,9 @@ pub record IsBooted {D K : Type 0} (v : DiskView D) (w : KeeperView K) (g : Geom
   pub in_place : (c : Content) → v.content old ≡ Some c → (used : ℕ → Bool) (saved : Contents) → IsPlain (saved 0)
       → ((image : List (List ℕ)) → IsCrash c.candidates image → Holds g used saved (contents_of image))
       → IfOk r (λ _. Tells v.content (IsBack g used saved) new)
+  pub recovered : (c : Content) → v.content old ≡ Some c → (kept : Option (List ℕ)) → w.kept from ≡ Some kept
+      → (p : Play) (n : ℕ) (first : List (List ℕ)) → (k : IsCutOf p n first) → p.plan.sizes ≡ g → IsLeftOf g first c
+      → IsRecovered v.content v.moment v.left_since g p n first k (IsOk r) old new
 
 -- the line of a boot that ended well
 abbrev pub booted_line : Booted → List ℕ

@@ -15,6 +15,7 @@ use Rattle.bow_history.specs.Journal.{Plan}
 use Rattle.bow_history.specs.Complete.{IsComplete}
 use Rattle.bow_history.specs.DiskCuts.{StandsAheadToo}
 use Rattle.bow_history.specs.Promises.{faults_in, held}
+use Rattle.bow_session.specs.Runs.{begun_over}
 use Rattle.bow_session.specs.Sessions.{Run, IsOver, plan_in, state_in}
 use Rattle.bow_play.specs.Committing.{HasCommitted}
 use Rattle.bow_play.specs.Leading.{PlayLeads}
@@ -23,6 +24,8 @@ use Rattle.bow_play.specs.Reading.{GaveScript}
 use Rattle.bow_play.specs.declared.faults.PlayFault.{PlayFault}
 use Rattle.bow_play.specs.declared.faults.PlayFault.TheVariants as plays
 use Rattle.bow_report.specs.Texts.{transcript_text}
+use Rattle.bow_promise.specs.Played.{CutsArePromisedOf, play_of}
+use Rattle.bow_promise.specs.Space.{NoSpaceIsTrue}
 use Rattle.vold_meta.specs.Keeper.{Goes, TimeGoes}
 use Rattle.bow_tool.specs.declared.refusals.Refusal.{Refusal}
 use Rattle.bow_tool.specs.declared.refusals.Refusal.TheVariants.{BadScript, SourceFault, DiskFault, KeeperFault, NeedsRestore, NoMemory, BadGeometry}
@@ -33,7 +36,9 @@ use Rattle.bow_tool.specs.Sizes.{HasSizes}
 -- The script that the source gave was run to its end in this session, over a device that was opened on the disk. Each
 -- request is answered, and the journal is complete; the disk's faults rose by at least as many as it tells. Over a disk
 -- that tells its content the journal is legal from the opening state of the image, cuts leave states on its way, and
--- the device stands for the last one; where no call of the disk failed, they are ahead for these too.
+-- the device stands for the last one; where no call of the disk failed, they are ahead for these too. No space is found
+-- only where there is none. Whatever a cut leaves is promised: over any number of restorations and boots after it, each
+-- cut anywhere, the first that ends well has the checkpoint back, or what was flushed, by where the cut came.
 pub record WasRun (c : Call) (s : Run c.Disk) : Type 0 where
   pub given : GaveScript (c.sources.left c.source) (c.sources.left c.source_after) s.script
   pub disk : c.disk_after ≡ s.core.disk
@@ -48,6 +53,10 @@ pub record WasRun (c : Call) (s : Run c.Disk) : Type 0 where
   pub ahead : (k : Content) → c.disks.content c.disk ≡ Some k
       → (Rose (c.disks.faults c.disk) (c.disks.faults s.core.disk) → ⊥)
       → PlayLeads c.disks.content c.disks.moment c.disks.left_since (StandsAheadToo s.core.geometry) c.disk k s
+  pub space : NoSpaceIsTrue (plan_in s) (begun_over ran.first) ran.turns
+  pub promised : (k : Content) → (told : c.disks.content c.disk ≡ Some k)
+      → CutsArePromisedOf c.disks.content c.disks.moment c.disks.left_since c.disk k s
+      (play_of k.now s (leads k told).end)
 
 -- and by the draws of this number
 abbrev pub WasPlayed : ℕ → (c : Call) → Run c.Disk → Type 0

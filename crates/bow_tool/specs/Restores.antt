@@ -17,13 +17,16 @@ use Rattle.bow_restore.specs.declared.answers.Restored.{Restored}
 use Rattle.bow_restore.specs.declared.answers.Restored.TheVariants as restored
 use Rattle.bow_restore.specs.declared.answers.Forwarded.{Forwarded}
 use Rattle.bow_restore.specs.declared.answers.Forwarded.TheVariants as forwarded
+use Rattle.bow_promise.specs.Cutting.{Play, IsCutOf}
+use Rattle.bow_promise.specs.Recovering.{HasEndedWell, IsLeftOf, IsRecovered}
 use Rattle.bow_tool.specs.declared.refusals.Refusal.{Refusal}
 use Rattle.bow_tool.specs.declared.refusals.Refusal.TheVariants.{DiskFault, BadChain, BadHeader, Reserved, NoMemory, Stopped}
 use Rattle.bow_tool.specs.Outside.{Call, DiskView, SourceLeft, KeeperLeft}
 use Rattle.bow_tool.specs.Sizes.{HasSizes, OnlySizes, SizesCause}
 
 -- A restoration of a device of these sizes came to this answer: which one, by the image at entry; what it leaves; and
--- what a cut in it leaves.
+-- what a cut in it leaves. After a play that was cut, and restorations and boots that were, it fulfils what is promised
+-- of that cut where it ends well; and what it leaves, cut or not, the next one may go on from.
 pub record IsRestored {D : Type 0} (v : DiskView D) (g : Geometry) (limit : Option ℕ) (old new : D)
     (answer : Restored) : Type 0 where
   pub cause : IsCaused limit (v.faults old) (v.faults new) answer
@@ -47,6 +50,9 @@ pub record IsRestored {D : Type 0} (v : DiskView D) (g : Geometry) (limit : Opti
   pub back : (c : Content) → v.content old ≡ Some c → (used : ℕ → Bool) (saved : Contents) → IsPlain (saved 0)
       → ((image : List (List ℕ)) → IsCrash c.candidates image → Holds g used saved (contents_of image))
       → EndsBack g used saved v.content new answer
+  pub recovered : (c : Content) → v.content old ≡ Some c → (p : Play) (n : ℕ) (first : List (List ℕ))
+      → (k : IsCutOf p n first) → p.plan.sizes ≡ g → IsLeftOf g first c
+      → IsRecovered v.content v.moment v.left_since g p n first k (HasEndedWell answer) old new
 
 -- the line of a restoration with these counts
 abbrev pub restored_line : ℕ → ℕ → List ℕ

@@ -1,10 +1,13 @@
 use Rattle.bow_tool.specs.Outside.{disk_view, keeper_view}
 use Rattle.bow_tool.specs.Boots.{IsBooted}
 use Rattle.bow_tool.proofs.Booting.{boot_refusal, boot_text, booted_since}
+use Rattle.bow_promise.proofs.Recovered.{boot_recovers}
 use Rattle.bow_tool.proofs.boots.boot_image.Goals as goal
 
 pub returns-clause-done : goal.returns-clause-done
 returns-clause-done g c =
+    let D = g.D.Disk in
+    let law = g.met.D.Disk in
     let v = disk_view g.D.Disk.stated g.D.Disk.content g.D.Disk.moment g.D.Disk.left_since g.D.Disk.faults in
     let w = keeper_view g.K.Keeper.kept g.K.Keeper.moment g.K.Keeper.left_since g.K.Keeper.faults in
     let sizes = c.in-Ok.geometry in
@@ -12,11 +15,13 @@ returns-clause-done g c =
     let new = c.boot-answer.new.disk in
     let from = c.args.keeper.now in
     let to = c.boot-answer.new.keeper in
-    let did : IsBooted v w sizes mid new from to c.boot-answer.result = record { answer = c.boot-answer.ensures.answer; cause = c.boot-answer.ensures.cause; leaves = c.boot-answer.ensures.leaves; is_cut = c.boot-answer.ensures.is_cut; texts = c.boot-answer.ensures.texts; cuts = c.boot-answer.ensures.cuts; holds = c.boot-answer.ensures.holds; in_place = c.boot-answer.ensures.in_place } in
+    let did : IsBooted v w sizes mid new from to c.boot-answer.result = record { answer = c.boot-answer.ensures.answer; cause = c.boot-answer.ensures.cause; leaves = c.boot-answer.ensures.leaves; is_cut = c.boot-answer.ensures.is_cut; texts = c.boot-answer.ensures.texts; cuts = c.boot-answer.ensures.cuts; holds = c.boot-answer.ensures.holds; in_place = c.boot-answer.ensures.in_place; recovered = λ k is kept told p n first cut same left. boot_recovers D.stated D.content D.moment D.left_since law.shaped law.cuts_shaped law.counts_now law.only_now sizes mid new k is c.in-Ok.ensures.sizes c.boot-answer.ensures.sizes p n first cut same left g.K.Keeper.kept to kept c.boot-answer.result (c.boot-answer.ensures.leaves k is kept told) (c.boot-answer.ensures.cuts k is) } in
     boot_text v w c.args.disk.now new from to (λ text. text.items) sizes c.boot-answer.result c.told_boot.result (c.boot-answer.ensures.sizes, c.in-Ok.ensures.valid) (booted_since v w sizes c.args.disk.now mid new from to c.boot-answer.result c.sizes_of.ensures.only did) c.told_boot.ensures
 
 pub returns-clause-cause : goal.returns-clause-cause
 returns-clause-cause g c =
+    let D = g.D.Disk in
+    let law = g.met.D.Disk in
     let v = disk_view g.D.Disk.stated g.D.Disk.content g.D.Disk.moment g.D.Disk.left_since g.D.Disk.faults in
     let w = keeper_view g.K.Keeper.kept g.K.Keeper.moment g.K.Keeper.left_since g.K.Keeper.faults in
     let sizes = c.in-Ok.geometry in
@@ -24,5 +29,5 @@ returns-clause-cause g c =
     let new = c.boot-answer.new.disk in
     let from = c.args.keeper.now in
     let to = c.boot-answer.new.keeper in
-    let did : IsBooted v w sizes mid new from to c.boot-answer.result = record { answer = c.boot-answer.ensures.answer; cause = c.boot-answer.ensures.cause; leaves = c.boot-answer.ensures.leaves; is_cut = c.boot-answer.ensures.is_cut; texts = c.boot-answer.ensures.texts; cuts = c.boot-answer.ensures.cuts; holds = c.boot-answer.ensures.holds; in_place = c.boot-answer.ensures.in_place } in
+    let did : IsBooted v w sizes mid new from to c.boot-answer.result = record { answer = c.boot-answer.ensures.answer; cause = c.boot-answer.ensures.cause; leaves = c.boot-answer.ensures.leaves; is_cut = c.boot-answer.ensures.is_cut; texts = c.boot-answer.ensures.texts; cuts = c.boot-answer.ensures.cuts; holds = c.boot-answer.ensures.holds; in_place = c.boot-answer.ensures.in_place; recovered = λ k is kept told p n first cut same left. boot_recovers D.stated D.content D.moment D.left_since law.shaped law.cuts_shaped law.counts_now law.only_now sizes mid new k is c.in-Ok.ensures.sizes c.boot-answer.ensures.sizes p n first cut same left g.K.Keeper.kept to kept c.boot-answer.result (c.boot-answer.ensures.leaves k is kept told) (c.boot-answer.ensures.cuts k is) } in
     boot_refusal v w c.args.disk.now new from to (λ text. text.items) sizes c.boot-answer.result c.told_boot.result (c.boot-answer.ensures.sizes, c.in-Ok.ensures.valid) (booted_since v w sizes c.args.disk.now mid new from to c.boot-answer.result c.sizes_of.ensures.only did) c.told_boot.ensures
