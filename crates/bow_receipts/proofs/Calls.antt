@@ -1,59 +1,89 @@
 -- The calls of a journal stand in it.
-use Rattle.std.proofs.Common.{◌≡◌, ℕ, zero, suc, ◌+◌, ◌≤◌, List, [], ◌∷◌, Some, arith, subst, sym, refl}
+use Rattle.std.proofs.Common.{◌≡◌, ℕ, zero, suc, ◌+◌, ◌≤◌, ◌++◌, List, [], ◌∷◌, length, Some, arith, subst, sym, refl, ap, ◌∙◌}
 use Rattle.std.specs.Prelude.{slice_get}
 use Rattle.std.proofs.lemmas.Option.{none-some}
 use Rattle.bow_units.specs.declared.requests.Op.{Op}
+use Rattle.bow_units.specs.declared.requests.Outcome.{Outcome}
 use Rattle.bow_history.specs.declared.items.Item.{Item}
 use Rattle.bow_history.specs.declared.items.Item.TheVariants.{Wrote, Got, Answered}
-use Rattle.bow_history.specs.Journal.{Buffers}
-use Rattle.bow_receipts.specs.Asking.{request_of}
-use Rattle.bow_receipts.specs.Calls.{Call, calls_from, read_by, CallsStand, PlacesRise, CallsRise}
+use Rattle.bow_tags.specs.declared.view.Entry.{Entry}
+use Rattle.bow_receipts.specs.declared.asks.Answer.{Answer}
+use Rattle.bow_receipts.specs.Calls.{AreCallsFrom, CallsStand, PlacesRise, CallsRise}
 
-same_call : (a b : Call) → Some a ≡ Some b → a ≡ b
+same_call : (a b : Entry Op Answer) → Some a ≡ Some b → a ≡ b
 same_call a b e = cc
 
 -- the call is that of item k of the journal, behind so many items
-abbrev StandsAt : ℕ → List Item → Call → Type 0
-StandsAt before journal call = (k : ℕ) × (call.place ≡ before + k)
-    × (slice_get journal k ≡ Some (Answered call.caller call.number call.outcome))
+abbrev StandsAt : ℕ → List Item → Entry Op Answer → Type 0
+StandsAt before journal x = (k : ℕ) × (x.answer.place ≡ before + k)
+    × (slice_get journal k ≡ Some (Answered x.lane x.number x.answer.outcome))
 
-behind : (before : ℕ) (x : Item) (items : List Item) (call : Call) → StandsAt (suc before) items call
-    → StandsAt before (x ∷ items) call
-behind before x items call (k, place, at) = (suc k, omega arith, at)
+behind : (before : ℕ) (item : Item) (items : List Item) (x : Entry Op Answer) → StandsAt (suc before) items x
+    → StandsAt before (item ∷ items) x
+behind before item items x (k, place, at) = (suc k, omega arith, at)
 
-stands_from : (asked : List (List Op)) (kept : Buffers) (before : ℕ) (journal : List Item) (i : ℕ) (call : Call)
-    → slice_get (calls_from asked kept before journal) i ≡ Some call → StandsAt before journal call
-stands_from asked kept before [] i call at = absurd (none-some call at)
-stands_from asked kept before (Wrote caller n b ∷ items) i call at =
-    behind before (Wrote caller n b) items call (stands_from asked kept (suc before) items i call at)
-stands_from asked kept before (Got caller n b ∷ items) i call at =
-    behind before (Got caller n b) items call (stands_from asked kept (suc before) items i call at)
-stands_from asked kept before (Answered caller n outcome ∷ items) zero call at =
-    let made : Call = record {
-      caller = caller;
-      number = n;
-      asked = request_of asked caller n;
-      place = before;
-      outcome = outcome;
-      bytes = read_by (request_of asked caller n) (kept caller n);
-    } in
-    subst (StandsAt before (Answered caller n outcome ∷ items)) (same_call made call at) (0, omega arith, refl)
-stands_from asked kept before (Answered caller n outcome ∷ items) (suc i) call at =
-    behind before (Answered caller n outcome) items call (stands_from asked kept (suc before) items i call at)
+stands_from : (before : ℕ) (journal : List Item) (calls : List (Entry Op Answer)) → AreCallsFrom before journal calls
+    → (i : ℕ) (x : Entry Op Answer) → slice_get calls i ≡ Some x → StandsAt before journal x
+stands_from before [] [] h i x at = absurd (none-some x at)
+stands_from before [] (y ∷ calls) h i x at = absurd h
+stands_from before (Wrote l n b ∷ items) calls h i x at = behind before (Wrote l n b) items x (stands_from (suc before) items calls h i x at)
+stands_from before (Got l n b ∷ items) calls h i x at = behind before (Got l n b) items x (stands_from (suc before) items calls h i x at)
+stands_from before (Answered l n outcome ∷ items) [] h i x at = absurd h
+stands_from before (Answered l n outcome ∷ items) (y ∷ calls) h zero x at =
+    subst (StandsAt before (Answered l n outcome ∷ items)) (same_call y x at) (
+      0,
+      (let place = h.3 in omega arith),
+      ap (λ (k : ℕ). Some (Answered k n outcome)) (sym h.0) ∙ ap (λ (k : ℕ). Some (Answered y.lane k outcome)) (sym h.1)
+          ∙ ap (λ (o : Outcome). Some (Answered y.lane y.number o)) (sym h.2),
+    )
+stands_from before (Answered l n outcome ∷ items) (y ∷ calls) h (suc i) x at =
+    behind before (Answered l n outcome) items x (stands_from (suc before) items calls h.4 i x at)
 
 pub calls_stand : CallsStand
-calls_stand asked kept journal i call at =
-    let r = stands_from asked kept 0 journal i call at in
-    let place : call.place ≡ r.0 = let e = r.1 in omega arith in
-    subst (λ (k : ℕ). slice_get journal k ≡ Some (Answered call.caller call.number call.outcome)) (sym place) r.2
+calls_stand journal calls h i x at =
+    let r = stands_from 0 journal calls h i x at in
+    let place : x.answer.place ≡ r.0 = let e = r.1 in omega arith in
+    subst (λ (k : ℕ). slice_get journal k ≡ Some (Answered x.lane x.number x.answer.outcome)) (sym place) r.2
 
-rise_from : (asked : List (List Op)) (kept : Buffers) (before low : ℕ) (journal : List Item) → low ≤ before
-    → PlacesRise low (calls_from asked kept before journal)
-rise_from asked kept before low [] less = tt
-rise_from asked kept before low (Wrote caller n b ∷ items) less = rise_from asked kept (suc before) low items (omega arith)
-rise_from asked kept before low (Got caller n b ∷ items) less = rise_from asked kept (suc before) low items (omega arith)
-rise_from asked kept before low (Answered caller n outcome ∷ items) less =
-    (less, rise_from asked kept (suc before) (suc before) items (omega arith))
+rise_from : (before low : ℕ) (journal : List Item) (calls : List (Entry Op Answer)) → AreCallsFrom before journal calls
+    → low ≤ before → PlacesRise low calls
+rise_from before low [] [] h less = tt
+rise_from before low [] (x ∷ calls) h less = absurd h
+rise_from before low (Wrote l n b ∷ items) calls h less = rise_from (suc before) low items calls h (omega arith)
+rise_from before low (Got l n b ∷ items) calls h less = rise_from (suc before) low items calls h (omega arith)
+rise_from before low (Answered l n outcome ∷ items) [] h less = absurd h
+rise_from before low (Answered l n outcome ∷ items) (x ∷ calls) h less =
+    let place = h.3 in (omega arith, rise_from (suc before) (suc x.answer.place) items calls h.4 (omega arith))
 
 pub calls_rise : CallsRise
-calls_rise asked kept journal = rise_from asked kept 0 0 journal (omega arith)
+calls_rise journal calls h = rise_from 0 0 journal calls h (omega arith)
+
+-- an item that is no answer adds no call
+pub wrote_more : (before : ℕ) (journal : List Item) (calls : List (Entry Op Answer)) (l n b : ℕ) → AreCallsFrom before journal calls
+    → AreCallsFrom before (journal ++ Wrote l n b ∷ []) calls
+wrote_more before [] [] l n b h = tt
+wrote_more before [] (x ∷ calls) l n b h = absurd h
+wrote_more before (Wrote x y z ∷ items) calls l n b h = wrote_more (suc before) items calls l n b h
+wrote_more before (Got x y z ∷ items) calls l n b h = wrote_more (suc before) items calls l n b h
+wrote_more before (Answered x y o ∷ items) [] l n b h = absurd h
+wrote_more before (Answered x y o ∷ items) (c ∷ calls) l n b h = (h.0, h.1, h.2, h.3, wrote_more (suc before) items calls l n b h.4)
+
+pub got_more : (before : ℕ) (journal : List Item) (calls : List (Entry Op Answer)) (l n b : ℕ) → AreCallsFrom before journal calls
+    → AreCallsFrom before (journal ++ Got l n b ∷ []) calls
+got_more before [] [] l n b h = tt
+got_more before [] (x ∷ calls) l n b h = absurd h
+got_more before (Wrote x y z ∷ items) calls l n b h = got_more (suc before) items calls l n b h
+got_more before (Got x y z ∷ items) calls l n b h = got_more (suc before) items calls l n b h
+got_more before (Answered x y o ∷ items) [] l n b h = absurd h
+got_more before (Answered x y o ∷ items) (c ∷ calls) l n b h = (h.0, h.1, h.2, h.3, got_more (suc before) items calls l n b h.4)
+
+-- an answer adds one, at its place
+pub answered_more : (before : ℕ) (journal : List Item) (calls : List (Entry Op Answer)) (x : Entry Op Answer) → AreCallsFrom before journal calls
+    → x.answer.place ≡ before + length journal
+    → AreCallsFrom before (journal ++ Answered x.lane x.number x.answer.outcome ∷ []) (calls ++ x ∷ [])
+answered_more before [] [] x h place = (refl, refl, refl, omega arith, tt)
+answered_more before [] (y ∷ calls) x h place = absurd h
+answered_more before (Wrote l n b ∷ items) calls x h place = answered_more (suc before) items calls x h (omega arith)
+answered_more before (Got l n b ∷ items) calls x h place = answered_more (suc before) items calls x h (omega arith)
+answered_more before (Answered l n o ∷ items) [] x h place = absurd h
+answered_more before (Answered l n o ∷ items) (y ∷ calls) x h place = (h.0, h.1, h.2, h.3, answered_more (suc before) items calls x h.4 (omega arith))

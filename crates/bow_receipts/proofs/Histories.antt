@@ -10,10 +10,10 @@ use Rattle.bow_history.specs.Promises.{start_of, state_of}
 use Rattle.bow_history.specs.declared.items.Item.{Item}
 use Rattle.bow_history.proofs.SoundTurns.{beginning_is_sound, runs_go_in_order}
 use Rattle.bow_history.proofs.Sessions.{loaded_is_session, turns_keep_session, sessions_are_legal}
-use Rattle.bow_receipts.specs.Asking.{AsksAtLeast, AskedMore, LoadedIsHistory, TurnsKeepHistory, HistoriesAreLegal, HistoriesGoInOrder, HistoriesCountFaults, plan_of, under}
+use Rattle.bow_receipts.specs.Asking.{Asked, AsksAtLeast, AskedMore, LoadedIsHistory, TurnsKeepHistory, HistoriesAreLegal, HistoriesGoInOrder, HistoriesCountFaults, plan_of, under}
 
 -- a plan that asks more asks all that was asked before
-asks_before : (g : Geometry) (asked more : List (List Op)) (plan : Plan) → AskedMore asked more
+asks_before : (g : Geometry) (asked more : Asked) (plan : Plan) → AskedMore asked more
     → AsksAtLeast g more plan → AsksAtLeast g asked plan
 asks_before g asked more plan m h = record {
   sizes = h.sizes;
@@ -23,11 +23,11 @@ asks_before g asked more plan m h = record {
 }
 
 -- there is one section
-one_section : (g : Geometry) (asked : List (List Op)) (plan : Plan) → AsksAtLeast g asked plan → SectionsRise plan
+one_section : (g : Geometry) (asked : Asked) (plan : Plan) → AsksAtLeast g asked plan → SectionsRise plan
 one_section g asked plan h lane n = let a = h.section lane n in let b = h.section lane (suc n) in omega arith
 
 -- a plan asks at least what it asks
-asks_itself : (g : Geometry) (asked : List (List Op)) → AsksAtLeast g asked (plan_of g asked)
+asks_itself : (g : Geometry) (asked : Asked) → AsksAtLeast g asked (plan_of g asked)
 asks_itself g asked = record { sizes = refl; callers = refl; requests = λ caller n op at. at; section = λ caller n. refl }
 
 pub loaded_is_history : LoadedIsHistory

@@ -1,58 +1,37 @@
 -- The calls of a journal.
-use Rattle.std.specs.Prelude.{◌≡◌, ℕ, suc, ◌≤◌, List, [], ◌∷◌, slice_get, Option, Some}
+use Rattle.std.specs.Prelude.{◌≡◌, ℕ, suc, ◌≤◌, List, [], ◌∷◌, slice_get, Some}
 use Rattle.bow_units.specs.declared.requests.Op.{Op}
-use Rattle.bow_units.specs.declared.requests.Op.TheVariants as ops
-use Rattle.bow_units.specs.declared.requests.Outcome.{Outcome}
 use Rattle.bow_history.specs.declared.items.Item.{Item}
 use Rattle.bow_history.specs.declared.items.Item.TheVariants.{Wrote, Got, Answered}
-use Rattle.bow_history.specs.Journal.{Buffers}
-use Rattle.bow_receipts.specs.Asking.{request_of}
+use Rattle.bow_tags.specs.declared.view.Entry.{Entry}
+use Rattle.bow_receipts.specs.declared.asks.Answer.{Answer}
 
--- A call: its caller, its number among that caller's, what was asked, and its answer: where that stands in the journal,
--- the outcome, and what a read has read.
-pub record Call : Type 0 where
-  pub caller : ℕ
-  pub number : ℕ
-  pub asked : Option Op
-  pub place : ℕ
-  pub outcome : Outcome
-  pub bytes : List ℕ
+-- These are the answers of a journal, in order, where so many items come before it: each has its caller, its number
+-- among that caller's, and its place.
+abbrev pub AreCallsFrom : ℕ → List Item → List (Entry Op Answer) → Type 0
+AreCallsFrom before [] [] = Unit {0}
+AreCallsFrom before [] (x ∷ calls) = ⊥
+AreCallsFrom before (Wrote caller n b ∷ items) calls = AreCallsFrom (suc before) items calls
+AreCallsFrom before (Got caller n b ∷ items) calls = AreCallsFrom (suc before) items calls
+AreCallsFrom before (Answered caller n outcome ∷ items) [] = ⊥
+AreCallsFrom before (Answered caller n outcome ∷ items) (x ∷ calls) = (x.lane ≡ caller) × (x.number ≡ n)
+    × (x.answer.outcome ≡ outcome) × (x.answer.place ≡ before) × AreCallsFrom (suc before) items calls
 
--- what a read has read, and nothing of another request
-abbrev pub read_by : Option Op → List ℕ → List ℕ
-read_by (Some (ops.Read e payload)) bytes = bytes
-read_by request bytes = []
-
--- the answered requests of a journal, in order, where so many items come before it
-abbrev pub calls_from : List (List Op) → Buffers → ℕ → List Item → List Call
-calls_from asked kept before [] = []
-calls_from asked kept before (Wrote caller n b ∷ items) = calls_from asked kept (suc before) items
-calls_from asked kept before (Got caller n b ∷ items) = calls_from asked kept (suc before) items
-calls_from asked kept before (Answered caller n outcome ∷ items) =
-    record {
-      caller = caller;
-      number = n;
-      asked = request_of asked caller n;
-      place = before;
-      outcome = outcome;
-      bytes = read_by (request_of asked caller n) (kept caller n);
-    } ∷ calls_from asked kept (suc before) items
-
--- the calls of a journal, with what was asked and what the reads have read
-abbrev pub calls_of : List (List Op) → Buffers → List Item → List Call
-calls_of asked kept journal = calls_from asked kept 0 journal
+-- the calls of a journal
+abbrev pub AreCalls : List Item → List (Entry Op Answer) → Type 0
+AreCalls journal calls = AreCallsFrom 0 journal calls
 
 -- A call stands where it says: the journal's item there is its answer.
 abbrev pub CallsStand : Type 0
-CallsStand = (asked : List (List Op)) (kept : Buffers) (journal : List Item) (i : ℕ) (call : Call)
-    → slice_get (calls_of asked kept journal) i ≡ Some call
-    → slice_get journal call.place ≡ Some (Answered call.caller call.number call.outcome)
+CallsStand = (journal : List Item) (calls : List (Entry Op Answer)) → AreCalls journal calls
+    → (i : ℕ) (x : Entry Op Answer) → slice_get calls i ≡ Some x
+    → slice_get journal x.answer.place ≡ Some (Answered x.lane x.number x.answer.outcome)
 
 -- the places rise from one call to the next, from this one on
-abbrev pub PlacesRise : ℕ → List Call → Type 0
+abbrev pub PlacesRise : ℕ → List (Entry Op Answer) → Type 0
 PlacesRise low [] = Unit {0}
-PlacesRise low (call ∷ calls) = (low ≤ call.place) × PlacesRise (suc call.place) calls
+PlacesRise low (x ∷ calls) = (low ≤ x.answer.place) × PlacesRise (suc x.answer.place) calls
 
 -- The calls of a journal stand in its order.
 abbrev pub CallsRise : Type 0
-CallsRise = (asked : List (List Op)) (kept : Buffers) (journal : List Item) → PlacesRise 0 (calls_of asked kept journal)
+CallsRise = (journal : List Item) (calls : List (Entry Op Answer)) → AreCalls journal calls → PlacesRise 0 calls

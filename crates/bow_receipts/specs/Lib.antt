@@ -1,2 +1,6 @@
 pub mod Asking
 pub mod Calls
+pub mod Copies
+pub mod Hands
+pub mod Served
+pub mod Noted

@@ -1,0 +1,45 @@
+// What the callers have in hand.
+ghost use Rattle.std.specs.Prelude.{◌≡◌, length};
+ghost use Rattle.bow_machine.specs.Steps.{extent_of};
+ghost use Rattle.bow_receipts.specs.Hands.{lane_with};
+
+use crate::asks::Copies;
+use bow_core::Ticket;
+use bow_tags::Job;
+use bow_units::Op;
+
+// A request that the device has: its ticket, its job, its first block, and room for its answer.
+#[derive(Drop)]
+pub(crate) struct Hand {
+    pub(crate) ticket: Ticket,
+    pub(crate) job: Job,
+    pub(crate) first: u64,
+    pub(crate) copies: Copies,
+}
+
+// The caller whose request has the ticket: one look at each, from the last one on.
+pub(crate) fn lane_of(hands: &[Option<Hand>], ticket: Ticket) -> usize
+    ensures { result ≡ lane_with hands.now ticket }
+{
+    let mut lane = hands.len();
+    while lane > 0 {
+        lane -= 1;
+        if let Some(hand) = &hands[lane] {
+            if hand.ticket == ticket {
+                return lane;
+            }
+        }
+    }
+    0
+}
+
+// The first block of a request.
+pub(crate) fn first_block(op: &Op) -> u64
+    ensures { result ≡ (extent_of op.now).first }
+{
+    match op {
+        Op::Read(extent, _) | Op::Write(extent, _) => extent.first,
+        Op::Discard(extent) => extent.first,
+        Op::Flush | Op::Prepare | Op::Commit => 0,
+    }
+}

@@ -1,0 +1,195 @@
+// What lies under the lock.
+ghost use Rattle.std.specs.Prelude.{◌≡◌, ◌+◌, ◌-◌, ◌^◌, ◌<◌, Some, length, true, false, IsTrue};
+ghost use Rattle.bow_core.specs.Turns.{told_of};
+ghost use Rattle.bow_machine.specs.Steps.{Idle};
+ghost use Rattle.bow_receipts.specs.Copies.{read_by};
+ghost use Rattle.bow_receipts.specs.declared.hands.Hand.{Hand};
+
+use crate::asks::{Answer, Ask, Call, Copies};
+use crate::hands::{Hand, first_block, lane_of};
+use crate::naming::Naming;
+use bow_core::{Core, Step, Ticket, Turn};
+use bow_disk::Disk;
+use bow_history::Item;
+use bow_ranges::Ranges;
+use bow_tags::{ServerSeat, Tags};
+use bow_units::{Op, Outcome, Payload};
+
+// The device, the one seat that serves its callers, what each of them has in hand, what was done, and the calls that
+// are answered.
+pub(crate) struct Service<D: Disk, R: Ranges> {
+    pub(crate) core: Core<D, R>,
+    pub(crate) server: ServerSeat<Ask, Answer>,
+    pub(crate) hands: Vec<Option<Hand>>,
+    pub(crate) journal: Vec<Item>,
+    pub(crate) calls: Vec<Call>,
+}
+
+impl<D: Disk, R: Ranges> Service<D, R> {
+    ghost use Rattle.bow_receipts.specs.Served.{Serves};
+    ghost use Rattle.bow_receipts.specs.Noted.{IsOfHand, IsNotable, IsAnswerable, IsAnswered, IsNoted, IsTurnOf};
+    ghost use Rattle.bow_receipts.specs.Hands.{hand_at, lane_with};
+
+    // Takes the request of this number in, where its caller has posted it.
+    pub(crate) fn admit<J: Naming<D>>(
+        &mut self,
+        tags: &Tags<Ask, Answer>,
+        lane: u32,
+        number: u32,
+    ) -> bool
+        requires own { tags.now ≡ J.table }
+        requires serves { Serves D.stated D.content D.moment D.left_since D.faults J.sizes J.callers J.allowed J.table
+            J.begins self.old }
+        requires lane { lane < J.callers }
+        requires may { number < J.allowed lane }
+        ensures serves { Serves D.stated D.content D.moment D.left_since D.faults J.sizes J.callers J.allowed J.table
+            J.begins self.new }
+    {
+        let Ok((job, ask)) = tags.take(&mut self.server, lane, number) else {
+            return false;
+        };
+        let Ask { op, copies } = ask;
+        let first = first_block(&op);
+        let ticket = self.core.admit(op);
+        self.hands[lane as usize] = Some(Hand {
+            ticket,
+            job,
+            first,
+            copies,
+        });
+        true
+    }
+
+    // One step of the device: of the caller's own request where it can go on, and else of the worker or of the
+    // commands.
+    pub(crate) fn step<J: Naming<D>>(&mut self, tags: &Tags<Ask, Answer>, lane: u32)
+        requires own { tags.now ≡ J.table }
+        requires serves { Serves D.stated D.content D.moment D.left_since D.faults J.sizes J.callers J.allowed J.table
+            J.begins self.old }
+        requires lane { lane < J.callers }
+        ensures serves { Serves D.stated D.content D.moment D.left_since D.faults J.sizes J.callers J.allowed J.table
+            J.begins self.new }
+    {
+        let turn = self.next_turn(lane as usize);
+        let told = self.core.step(turn);
+        self.note(tags, told);
+    }
+
+    // Whose turn it is where the caller makes the step.
+    fn next_turn(&self, lane: usize) -> Turn
+        requires { lane < length self.now.hands.items }
+        ensures { IsTurnOf self.now.hands.items result }
+    {
+        if let Some(hand) = &self.hands[lane] {
+            let turn = Turn::Map(hand.ticket);
+            if self.core.ready(turn) {
+                return turn;
+            }
+        }
+        if self.core.ready(Turn::Worker) {
+            return Turn::Worker;
+        }
+        Turn::Command
+    }
+
+    // What a step told becomes at most one item of the journal; and where it is an answer, the caller gets it.
+    fn note(&mut self, tags: &Tags<Ask, Answer>, told: Step)
+        requires own { self.old.server.table ≡ tags.now }
+        requires told { IsOfHand told self.old }
+        ensures { IsNoted told self.old self.new }
+    {
+        match told {
+            Step::Idle | Step::Moved => {}
+            Step::Wrote { ticket, index } => {
+                let lane = lane_of(&self.hands, ticket);
+                if let Some(hand) = &self.hands[lane] {
+                    self.journal.push_reserved(Item::Wrote {
+                        lane: hand.job.lane,
+                        number: hand.job.number,
+                        block: hand.first + index as u64,
+                    });
+                }
+            }
+            Step::Got { ticket, index } => {
+                let lane = lane_of(&self.hands, ticket);
+                if let Some(hand) = &self.hands[lane] {
+                    self.journal.push_reserved(Item::Got {
+                        lane: hand.job.lane,
+                        number: hand.job.number,
+                        block: hand.first + index as u64,
+                    });
+                }
+            }
+            Step::Answered {
+                ticket,
+                op,
+                outcome,
+            } => self.answer(tags, ticket, op, outcome),
+        }
+    }
+
+    // The request of the ticket is answered.
+    fn answer(&mut self, tags: &Tags<Ask, Answer>, ticket: Ticket, op: Op, outcome: Outcome)
+        requires own { self.old.server.table ≡ tags.now }
+        requires told { (h : Hand) × IsNotable self.old ticket h × IsAnswerable self.old h op }
+        ensures { (h : Hand) → hand_at self.old.hands.items (lane_with self.old.hands.items ticket) ≡ Some h
+            → IsAnswered self.old ticket h op outcome self.new }
+    {
+        let at = lane_of(&self.hands, ticket);
+        let Some(hand) = self.hands[at].take() else {
+            return;
+        };
+        let Hand {
+            ticket: _,
+            job,
+            first: _,
+            copies,
+        } = hand;
+        let (lane, number) = (job.lane, job.number);
+        let place = self.journal.len() as u32;
+        let Copies { answer, record } = copies;
+        let bytes = copied(answer, read_by(&op));
+        let kept = copied(record, read_by(&op));
+        self.journal.push_reserved(Item::Answered {
+            lane,
+            number,
+            outcome,
+        });
+        let given = Answer {
+            place,
+            outcome,
+            bytes,
+        };
+        tags.answer(&mut self.server, job, given);
+        self.calls.push_reserved(Call {
+            lane,
+            number,
+            op,
+            answer: Answer {
+                place,
+                outcome,
+                bytes: kept,
+            },
+        });
+    }
+}
+
+// What a read has read; no other op reads anything.
+fn read_by(op: &Op) -> &[u8]
+    ensures { result.now ≡ read_by op.now }
+{
+    match op {
+        Op::Read(_, payload) => payload.as_slice(),
+        Op::Write(_, _) | Op::Discard(_) | Op::Flush | Op::Prepare | Op::Commit => &[],
+    }
+}
+
+// These bytes, in a payload of their length.
+fn copied(into: Payload, bytes: &[u8]) -> Payload
+    requires { length into ≡ length bytes.now }
+    ensures { result ≡ bytes.now }
+{
+    let Payload { bytes: mut room } = into;
+    room.copy_from_slice(bytes);
+    Payload::new(room)
+}
