@@ -34,7 +34,7 @@ use Rattle.bow_receipts.specs.Asking.{Asked, AsksAtLeast, FitsSize, asked_of, bl
 use Rattle.bow_receipts.specs.Copies.{HasRoomFor}
 use Rattle.bow_receipts.specs.Hands.{IsHeld, IsInHand, hand_at, ticket_in, tickets_of}
 use Rattle.bow_receipts.specs.Served.{IsKept, IsReadBy, IsSeated, IsServed, Serves, answered_of, count_of, held_of, view_under}
-use Rattle.bow_receipts.proofs.Lists.{below_one, clash, filter_more, filter_none, filter_other, front_at, index_set_here, index_set_there, map_length, map_more, more_at, over_more, set_length}
+use Rattle.bow_receipts.proofs.Lists.{below_one, clash, filter_more, filter_none, filter_other, front_at, index_set_here, index_set_there, map_length, map_more, more_at, over_more, set_length, speaks_for_all}
 use Rattle.bow_receipts.proofs.OpAsks.{blank_twice, first_blank, fits_whole, for_blank, room_blank}
 use Rattle.bow_receipts.proofs.Serving.{asked_few, asked_lane, asked_next, asks_now, lanes_are, memory, seat, sound, st}
 use Rattle.bow_receipts.proofs.Turns.{cuts_on, did_nothing, fine_on, push, session_on}
@@ -55,7 +55,7 @@ module _ {D R : Type 0} (stated : D → Option Geometry) (content : D → Option
   module _ (lane number : ℕ) (inside : lane < lanes) (may : number < allowed lane) (op : Op)
       (fits : FitsSize s.server.view.size (blank op)) (none : job_times lane s.server.view.jobs ≡ 0) (below : SpeaksForAll s.server.view → GivenBelow s.server.view lane number) where
     pub number_is : number ≡ answered_of given lane
-    number_is = below_one given lane number (answered_of given lane) (below (k.kept).all) ((k.kept).once lane)
+    number_is = below_one given lane number (answered_of given lane) (below (speaks_for_all s.server.view (k.kept).speaks (k.kept).servers)) ((k.kept).once lane)
 
     no_jobs : held_of lane jobs ≡ []
     no_jobs = filter_none (λ (j : Held Op). j.lane == lane) jobs none
@@ -230,7 +230,8 @@ module _ {D R : Type 0} (stated : D → Option Geometry) (content : D → Option
       kept_now : IsKept g lanes allowed (after_take s.server.view lane number (blank op)) (slice_set s.hands.items lane (Some hand)) s.journal.items s.calls.items
       kept_now = record {
         seats = set_length s.hands.items lane (Some hand) ∙ (k.kept).seats;
-        all = (k.kept).all;
+        speaks = (k.kept).speaks;
+        servers = (k.kept).servers;
         size = (k.kept).size;
         in_hand = in_hand_now;
         once = (k.kept).once;
@@ -291,7 +292,8 @@ module _ {D R : Type 0} (stated : D → Option Geometry) (content : D → Option
         (subst (λ j. IsKept g lanes allowed (looked lane word s.server.view) s.hands.items j.items new.calls.items) (sym journal_is)
         (subst (λ c. IsKept g lanes allowed (looked lane word s.server.view) s.hands.items s.journal.items c.items) (sym calls_are) (record {
           seats = (k.kept).seats;
-          all = (k.kept).all;
+          speaks = (k.kept).speaks;
+          servers = (k.kept).servers;
           size = (k.kept).size;
           in_hand = (k.kept).in_hand;
           once = (k.kept).once;

@@ -23,7 +23,7 @@ asks_before g asked more plan m h = record {
 }
 
 -- there is one section
-one_section : (g : Geometry) (asked : Asked) (plan : Plan) → AsksAtLeast g asked plan → SectionsRise plan
+pub one_section : (g : Geometry) (asked : Asked) (plan : Plan) → AsksAtLeast g asked plan → SectionsRise plan
 one_section g asked plan h lane n = let a = h.section lane n in let b = h.section lane (suc n) in omega arith
 
 -- a plan asks at least what it asks

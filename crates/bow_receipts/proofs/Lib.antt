@@ -1,8 +1,13 @@
 pub mod OpAsks
 pub mod Admitting
+pub mod Beginning
 pub mod Calls
+pub mod Ended
 pub mod Histories
 pub mod Lists
 pub mod Noting
+pub mod Passing
+pub mod Rests
 pub mod Serving
+pub mod Sums
 pub mod Turns

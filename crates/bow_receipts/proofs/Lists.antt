@@ -9,7 +9,9 @@ use lib.ListN.{get_elem?}
 use Rattle.bow_history.specs.Ends.{over_lanes}
 use Rattle.bow_tags.specs.declared.view.Entry.{Entry}
 use Rattle.bow_tags.specs.declared.view.Held.{Held}
-use Rattle.bow_tags.specs.Rule.{In, times, given_times, job_times}
+use Rattle.bow_tags.specs.declared.view.View.{View}
+use Rattle.bow_tags.specs.Rule.{In, times, given_times, job_times, server_times}
+use Rattle.bow_tags.specs.Steps.{SpeaksForAll}
 use Rattle.bow_tags.proofs.Lists.{times-append}
 
 pub one_of : {A : Type 0} (o : Option A) (x y : A) → o ≡ Some x → o ≡ Some y → x ≡ y
@@ -247,3 +249,11 @@ module _ {A : Type 0} where
   filter_at p (y ∷ xs) (suc i) x at is =
       let rest = filter_at p xs i x at is in
       elim (p y) as (λ b. (m : ℕ) × (slice_get (cond b (y ∷ filter p xs) (filter p xs)) m ≡ Some x)) [ true ↦ (suc rest.0, rest.1) | false ↦ rest ]
+
+-- the one seat speaks for every server number
+pub speaks_for_all : {P Q : Type 0} (v : View P Q) → v.speaks ≡ 0 ∷ [] → v.servers ≡ 1 → SpeaksForAll v
+speaks_for_all v speaks servers j below =
+    let first : j ≡ 0 = omega (arith, below, servers) in
+    let one : server_times 0 (0 ∷ []) ≡ 1 = refl in
+    let there : server_times j v.speaks ≡ 1 = ap (λ n. server_times n v.speaks) first ∙ ap (λ (xs : List ℕ). server_times 0 xs) speaks ∙ one in
+    omega (arith, there)

@@ -211,7 +211,8 @@ module _ {D R : Type 0} (stated : D → Option Geometry) (content : D → Option
             subst (λ h. IsKept g lanes allowed s.server.view h new.journal.items new.calls.items) (sym n.hands) (
               subst (λ c. IsKept g lanes allowed s.server.view s.hands.items new.journal.items c) (sym n.calls) (record {
                 seats = (k.kept).seats;
-                all = (k.kept).all;
+                speaks = (k.kept).speaks;
+                servers = (k.kept).servers;
                 size = (k.kept).size;
                 in_hand = (k.kept).in_hand;
                 once = (k.kept).once;
@@ -380,7 +381,8 @@ module _ {D R : Type 0} (stated : D → Option Geometry) (content : D → Option
       kept_now : IsKept g lanes allowed (after_answer s.server.view lane (answered_of given lane) (h.held_is).ask reply) (slice_set s.hands.items lane None) new.journal.items new.calls.items
       kept_now = record {
         seats = set_length s.hands.items lane None ∙ (k.kept).seats;
-        all = (k.kept).all;
+        speaks = (k.kept).speaks;
+        servers = (k.kept).servers;
         size = (k.kept).size;
         in_hand = hands_now;
         once = once_now;

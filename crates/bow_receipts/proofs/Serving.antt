@@ -109,7 +109,7 @@ asked_next lanes given jobs lane ask job =
     ap (λ (js : List (Held Op)). slice_get (map (λ x. x.ask) (given_of lane given) ++ map (λ j. j.ask) js) (answered_of given lane)) job
     ∙ last_at (map (λ x. x.ask) (given_of lane given)) ask (answered_of given lane) (sym (map_length (λ (x : Entry Op Answer). x.ask) (given_of lane given)))
 
-asks_itself : (g : Geometry) (asked : Asked) → AsksAtLeast g asked (plan_of g asked)
+pub asks_itself : (g : Geometry) (asked : Asked) → AsksAtLeast g asked (plan_of g asked)
 asks_itself g asked = record { sizes = refl; callers = refl; requests = λ caller n op at. at; section = λ caller n. refl }
 
 -- ----------------------------------------------------------------------------------------------------------------

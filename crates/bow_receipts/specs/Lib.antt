@@ -1,6 +1,9 @@
 pub mod Asking
 pub mod Calls
+pub mod Closing
 pub mod Copies
 pub mod Hands
-pub mod Served
 pub mod Noted
+pub mod Openings
+pub mod Passes
+pub mod Served

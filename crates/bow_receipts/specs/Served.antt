@@ -1,5 +1,5 @@
 -- What lies under the lock, and when it is the history of its callers.
-use Rattle.std.specs.Prelude.{◌≡◌, ℕ, ◌+◌, ◌*◌, ◌-◌, ◌^◌, ◌<◌, ◌≤◌, List, [], length, map, slice_get, Option, Some, filter, ◌==◌, vec_capacity}
+use Rattle.std.specs.Prelude.{◌≡◌, ℕ, ◌+◌, ◌*◌, ◌-◌, ◌^◌, ◌<◌, ◌≤◌, List, [], ◌∷◌, length, map, slice_get, Option, Some, filter, ◌==◌, vec_capacity}
 use Rattle.std.specs.Option.{option_map}
 use Rattle.bow_units.specs.declared.requests.Op.{Op}
 use Rattle.bow_units.specs.declared.requests.Op.TheVariants as ops
@@ -21,7 +21,7 @@ use Rattle.bow_tags.specs.declared.view.Entry.{Entry}
 use Rattle.bow_tags.specs.declared.view.Held.{Held}
 use Rattle.bow_tags.specs.declared.view.View.{View as SeatView}
 use Rattle.bow_tags.specs.Seats.{lanes_of}
-use Rattle.bow_tags.specs.Steps.{GivenBelow, SpeaksForAll}
+use Rattle.bow_tags.specs.Steps.{GivenBelow}
 use Rattle.atomic_table.specs.Seated.{TableId}
 use Rattle.bow_receipts.specs.declared.asks.Answer.{Answer}
 use Rattle.bow_receipts.specs.declared.asks.Call.{Call}
@@ -101,7 +101,8 @@ pub record IsBegun {D : Type 0} (g : Geometry) (first : View D) : Type 0 where
 pub record IsKept (g : Geometry) (lanes : ℕ) (allowed : ℕ → ℕ) (seat : SeatView Op Answer)
     (hands : List (Option Hand)) (journal : List Item) (calls : List Call) : Type 0 where
   pub seats : length hands ≡ lanes
-  pub all : SpeaksForAll seat
+  pub speaks : seat.speaks ≡ 0 ∷ []
+  pub servers : seat.servers ≡ 1
   pub size : seat.size ≡ g.block_size
   pub in_hand : (lane : ℕ) → IsInHand lane (answered_of seat.given lane) (hand_at hands lane) (held_of lane seat.jobs)
   pub once : (lane : ℕ) → GivenBelow seat lane (answered_of seat.given lane)

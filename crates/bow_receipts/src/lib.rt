@@ -2,11 +2,21 @@
 #![tactic(auto)]
 
 mod asks;
+mod closing;
+mod desk;
 mod hands;
 mod laws;
+mod locked;
 mod naming;
+mod passes;
+mod seating;
 mod service;
+mod setting;
 
 pub use asks::{Answer, Ask, Call, CallFault};
+pub use closing::Closed;
+pub use desk::Desk;
 pub use laws::{calls_law, history_law};
 pub use naming::Naming;
+pub use passes::Pass;
+pub use seating::Callers;

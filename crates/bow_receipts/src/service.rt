@@ -61,8 +61,8 @@ impl<D: Disk, R: Ranges> Service<D, R> {
     }
 
     // One step of the device: of the caller's own request where it can go on, and else of the worker or of the
-    // commands.
-    pub(crate) fn step<J: Naming<D>>(&mut self, tags: &Tags<Ask, Answer>, lane: u32)
+    // commands. It says whether the device did anything.
+    pub(crate) fn step<J: Naming<D>>(&mut self, tags: &Tags<Ask, Answer>, lane: u32) -> bool
         requires own { tags.now ≡ J.table }
         requires serves { Serves D.stated D.content D.moment D.left_since D.faults J.sizes J.callers J.allowed J.table
             J.begins self.old }
@@ -72,7 +72,9 @@ impl<D: Disk, R: Ranges> Service<D, R> {
     {
         let turn = self.next_turn(lane as usize);
         let told = self.core.step(turn);
+        let moved = !matches!(&told, Step::Idle);
         self.note(tags, told);
+        moved
     }
 
     // Whose turn it is where the caller makes the step.

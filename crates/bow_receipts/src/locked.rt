@@ -1,0 +1,84 @@
+// The value under the lock.
+ghost use Rattle.std.specs.Prelude.{◌≡◌, ◌<◌};
+ghost use Rattle.bow_receipts.specs.Served.{Serves};
+
+use crate::asks::{Answer, Ask};
+use crate::naming::Naming;
+use crate::service::Service;
+use bow_disk::Disk;
+use bow_ranges::Ranges;
+use bow_tags::Tags;
+use bow_units::Seen;
+use std::marker::{Model, PhantomData};
+
+// The device with what its callers have in hand and what was done, and the number of steps made. It keeps that this is
+// the history of the callers of the desk that J names.
+pub(crate) struct Locked<J: Naming<D>, D: Disk, R: Ranges> {
+    service: Service<D, R>,
+    steps: u64,
+    of: PhantomData<J>,
+}
+
+impl<J: Naming<D>, D: Disk, R: Ranges> Model for Locked<J, D, R> {
+    ghost use Rattle.bow_receipts.specs.declared.service.Service.{Service};
+    ghost use Rattle.bow_receipts.specs.Served.{Serves};
+
+    ghost Value = { Service D R };
+
+    ghost view = { λ l. l.service };
+
+    ghost invariant = { λ l. Serves D.stated D.content D.moment D.left_since D.faults J.sizes J.callers J.allowed
+        J.table J.begins l.service };
+}
+
+impl<J: Naming<D>, D: Disk, R: Ranges> Locked<J, D, R> {
+    pub(crate) fn new(service: Service<D, R>) -> Locked<J, D, R>
+        requires { Serves D.stated D.content D.moment D.left_since D.faults J.sizes J.callers J.allowed J.table
+            J.begins service }
+    {
+        Locked {
+            service,
+            steps: 0,
+            of: PhantomData,
+        }
+    }
+
+    // Takes the request of this number in, where its caller has posted it.
+    pub(crate) fn admit(&mut self, tags: &Tags<Ask, Answer>, lane: u32, number: u32) -> bool
+        requires own { tags.now ≡ J.table }
+        requires lane { lane < J.callers }
+        requires may { number < J.allowed lane }
+    {
+        self.service.admit::<J>(tags, lane, number)
+    }
+
+    // One step for the caller. It says whether the device did anything.
+    pub(crate) fn step(&mut self, tags: &Tags<Ask, Answer>, lane: u32) -> bool
+        requires own { tags.now ≡ J.table }
+        requires lane { lane < J.callers }
+    {
+        let moved = self.service.step::<J>(tags, lane);
+        self.steps = self.steps.saturating_add(1);
+        moved
+    }
+
+    // The present status, under the number of the steps made.
+    pub(crate) fn seen(&self) -> Seen {
+        Seen {
+            version: self.steps,
+            status: self.service.core.status(),
+        }
+    }
+
+    pub(crate) fn into_service(self) -> Service<D, R>
+        ensures { Serves D.stated D.content D.moment D.left_since D.faults J.sizes J.callers J.allowed J.table J.begins
+            result }
+    {
+        let Locked {
+            service,
+            steps: _,
+            of: _,
+        } = self;
+        service
+    }
+}
