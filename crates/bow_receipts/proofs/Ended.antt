@@ -306,3 +306,26 @@ own_of table size callers allowed given passes seats words server are is many al
     only : (j : ℕ) (t : Sitting Op Answer) (m : ℕ) (x : Entry Op Answer) → get_elem? (server ∷ []) j ≡ some t → get_elem? t.view.given m ≡ some x → slice_get server.view.given m ≡ Some x
     only zero t m x here there = let same : server ≡ t = some-injective server t here in get_of server.view.given m x (ap (λ (z : Sitting Op Answer). get_elem? z.view.given m) same ∙ there)
     only (suc j) t m x here there = absurd (some-ne-none t (sym here))
+
+pub some_at : {A : Type 0} (xs : List A) (j : ℕ) → j < length xs → (x : A) × (slice_get xs j ≡ Some x)
+some_at [] j less = absurd (omega (arith, less))
+some_at (x ∷ xs) zero less = (x, refl)
+some_at (x ∷ xs) (suc j) less = some_at xs j (omega (arith, less))
+
+-- the pass of each seat
+pub seat_pass : (table : TableId) (size callers : ℕ) (allowed : ℕ → ℕ) (passes : List Caller) (seats : List (Sitting Op Answer)) → AreSeats table size callers allowed passes seats → Numbered (λ i (p : Caller). p.lane ≡ i) passes
+    → (i : ℕ) (s : Sitting Op Answer) → get_elem? seats i ≡ some s → (p : Caller) × IsPass table size callers allowed s i p.made p.may
+seat_pass table size callers allowed passes seats are placed i s at =
+    let here = get_of seats i s at in
+    let inside = at_within seats i s here in
+    let p = some_at passes i (let e = are.many in omega (arith, inside, e)) in
+    let both = are.each i p.0 s p.1 here in
+    (p.0, subst (λ l. IsPass table size callers allowed s l (p.0).made (p.0).may) (placed i p.0 (elem_of passes i p.0 p.1)) both.0)
+
+-- the one of a list of one
+pub in_one : {A : Type 0} (xs : List A) (x y : A) (i : ℕ) → xs ≡ x ∷ [] → get_elem? xs i ≡ some y → (i ≡ 0) × (x ≡ y)
+in_one {A} xs x y i is at = by i (ap (λ (zs : List A). get_elem? zs i) (sym is) ∙ at)
+  where
+    by : (i : ℕ) → get_elem? (x ∷ []) i ≡ some y → (i ≡ 0) × (x ≡ y)
+    by zero here = (refl, some-injective x y here)
+    by (suc i) here = absurd (some-ne-none y (sym here))
