@@ -1,8 +1,8 @@
 -- A caller's request is taken in.
-use Rattle.std.proofs.Common.{◌≡◌, ◌≢◌, ℕ, zero, suc, ◌+◌, ◌*◌, ◌-◌, ◌^◌, ◌<◌, ◌≤◌, ◌++◌, ◌==◌, Bool, List, [], ◌∷◌, length, map, filter, Option, Some, None, arith, refl, sym, ap, ◌∙◌, subst, inl, inr, length-append, eq-eqb, ne_eqb}
+use Rattle.std.proofs.Common.{◌≡◌, ◌≢◌, ℕ, ◌+◌, ◌-◌, ◌^◌, ◌<◌, ◌≤◌, ◌++◌, ◌==◌, List, [], ◌∷◌, length, map, Option, Some, None, arith, refl, sym, ap, ◌∙◌, subst, inl, inr, length-append, eq-eqb, ne_eqb}
 use Rattle.std.specs.Prelude.{slice_get, slice_set, vec_capacity}
 use Rattle.std.proofs.lemmas.Bool.{cases_eq}
-use Rattle.std.proofs.lemmas.List.{append-nil, append_assoc}
+use Rattle.std.proofs.lemmas.List.{append-nil}
 use Rattle.atomic_table.specs.Seated.{TableId}
 use Rattle.bow_units.specs.declared.sizes.Geometry.{Geometry}
 use Rattle.bow_units.specs.declared.requests.Op.{Op}
@@ -18,7 +18,7 @@ use Rattle.bow_core.specs.Views.{View}
 use Rattle.bow_history.specs.Ends.{over_lanes}
 use Rattle.bow_history.specs.Histories.{session_after}
 use Rattle.bow_history.specs.Journal.{Plan}
-use Rattle.bow_history.specs.Sessions.{Session, Admits, begun, taken_in, after_turn, IsAdmission, IsFor}
+use Rattle.bow_history.specs.Sessions.{Session, Admits, taken_in, after_turn, IsAdmission, IsFor}
 use Rattle.bow_history.proofs.Places.{has_place}
 use Rattle.bow_session.specs.Runs.{begun_over}
 use Rattle.bow_tags.specs.declared.view.Entry.{Entry}
@@ -34,9 +34,9 @@ use Rattle.bow_receipts.specs.Asking.{Asked, AsksAtLeast, FitsSize, asked_of, bl
 use Rattle.bow_receipts.specs.Copies.{HasRoomFor}
 use Rattle.bow_receipts.specs.Hands.{IsHeld, IsInHand, hand_at, ticket_in, tickets_of}
 use Rattle.bow_receipts.specs.Served.{IsKept, IsReadBy, IsSeated, IsServed, Serves, answered_of, count_of, held_of, view_under}
-use Rattle.bow_receipts.proofs.Lists.{below_one, clash, filter_more, filter_none, filter_other, front_at, index_set_here, index_set_there, map_length, map_more, more_at, over_more, set_length, speaks_for_all}
+use Rattle.bow_receipts.proofs.Lists.{below_one, filter_more, filter_none, filter_other, front_at, index_set_here, index_set_there, more_at, over_more, set_length, speaks_for_all}
 use Rattle.bow_receipts.proofs.OpAsks.{blank_twice, first_blank, fits_whole, for_blank, room_blank}
-use Rattle.bow_receipts.proofs.Serving.{asked_few, asked_lane, asked_next, asks_now, lanes_are, memory, seat, sound, st}
+use Rattle.bow_receipts.proofs.Serving.{asked_few, asked_lane, asked_next, asks_now, memory, seat, sound, st}
 use Rattle.bow_receipts.proofs.Turns.{cuts_on, did_nothing, fine_on, push, session_on}
 
 module _ {D R : Type 0} (stated : D → Option Geometry) (content : D → Option Content) (moment : D → ℕ) (left : D → ℕ → List (List ℕ) → Type 0) (faults : D → ℕ)

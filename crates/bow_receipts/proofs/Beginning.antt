@@ -1,6 +1,6 @@
 -- What lies under the lock before the first call.
-use Rattle.std.proofs.Common.{◌≡◌, ℕ, zero, suc, ◌+◌, ◌*◌, ◌-◌, ◌^◌, ◌<◌, ◌≤◌, List, [], ◌∷◌, length, Option, Some, None, arith, refl, sym, ap, ◌∙◌, subst}
-use Rattle.std.specs.Prelude.{replicate, slice_get, sum, vec_capacity}
+use Rattle.std.proofs.Common.{◌≡◌, ℕ, zero, suc, ◌*◌, ◌-◌, ◌^◌, ◌<◌, ◌≤◌, List, [], ◌∷◌, length, Option, Some, None, arith, refl, sym, ap, ◌∙◌, subst}
+use Rattle.std.specs.Prelude.{replicate, sum, vec_capacity}
 use Rattle.atomic_table.specs.Seated.{TableId}
 use Rattle.bow_units.specs.declared.sizes.Geometry.{Geometry}
 use Rattle.bow_units.specs.declared.requests.Op.{Op}
@@ -8,8 +8,6 @@ use Rattle.bow_disk.specs.Disk.{Content, IsCrash, IsShaped}
 use Rattle.bow_core.specs.Views.{View, IsOpened}
 use Rattle.bow_machine.specs.MemoryIsSound.{MemoryIsSound}
 use Rattle.bow_history.specs.Ends.{over_lanes}
-use Rattle.bow_history.specs.Sections.{SectionsRise}
-use Rattle.bow_history.specs.Journal.{Plan}
 use Rattle.bow_history.proofs.DiskCuts.{loaded_has_cuts}
 use Rattle.bow_history.proofs.Sessions.{loaded_is_session}
 use Rattle.bow_session.specs.Runs.{begun_over, core_of}
@@ -17,10 +15,9 @@ use Rattle.bow_tags.specs.declared.view.View.{View as SeatView}
 use Rattle.bow_tags.specs.Rule.{new_view}
 use Rattle.bow_tags.specs.Seats.{lanes_of}
 use Rattle.bow_receipts.specs.declared.asks.Answer.{Answer}
-use Rattle.bow_receipts.specs.declared.hands.Hand.{Hand}
 use Rattle.bow_receipts.specs.declared.service.Service.{Service}
-use Rattle.bow_receipts.specs.Asking.{Asked, AsksAtLeast, asked_of}
-use Rattle.bow_receipts.specs.Hands.{IsInHand, hand_at, ticket_in}
+use Rattle.bow_receipts.specs.Asking.{asked_of}
+use Rattle.bow_receipts.specs.Hands.{IsInHand, ticket_in}
 use Rattle.bow_receipts.specs.Openings.{may_of}
 use Rattle.bow_receipts.specs.Served.{IsKept, IsServed, Serves, answered_of, count_of}
 use Rattle.bow_receipts.proofs.Histories.{one_section}

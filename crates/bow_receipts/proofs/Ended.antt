@@ -1,5 +1,5 @@
 -- A desk is closed.
-use Rattle.std.proofs.Common.{◌≡◌, ◌≢◌, ◌⊎◌, ℕ, zero, suc, ◌+◌, ◌*◌, ◌<◌, ◌≤◌, ◌++◌, ◌==◌, Bool, true, false, cond, List, [], ◌∷◌, length, map, filter, take, drop, Option, Some, None, arith, refl, sym, ap, ◌∙◌, subst, inl, inr, eq-eqb}
+use Rattle.std.proofs.Common.{◌≡◌, ℕ, zero, suc, ◌*◌, ◌<◌, ◌≤◌, ◌==◌, Bool, true, false, cond, List, [], ◌∷◌, length, map, filter, take, drop, Option, Some, None, arith, refl, sym, ap, ◌∙◌, subst, inl, inr, eq-eqb}
 use Rattle.std.specs.Prelude.{slice_get, slice_index}
 use Rattle.std.proofs.lemmas.Bool.{eqb-true}
 use Rattle.std.proofs.lemmas.List.{append-nil}
@@ -16,21 +16,20 @@ use Rattle.bow_chain.specs.Contents.{Contents, contents_of}
 use Rattle.bow_guard.specs.Cuts.{candidates_of}
 use Rattle.bow_flat.specs.Flat.{Flat}
 use Rattle.bow_guard.specs.Standing.{StandsFor}
-use Rattle.bow_queue.specs.declared.tickets.Ticket.{Ticket}
 use Rattle.bow_machine.specs.Ahead.{IsLed}
 use Rattle.bow_machine.specs.Memory.{Memory}
 use Rattle.bow_machine.specs.Standing.{IsStanding}
 use Rattle.bow_core.specs.Further.{LedIn, LedOver}
-use Rattle.bow_core.specs.Standing.{StandsIn, StandsOver}
+use Rattle.bow_core.specs.Standing.{StandsOver}
 use Rattle.bow_core.specs.Views.{View}
 use Rattle.bow_history.specs.Complete.{AreInOrder, IsOver}
 use Rattle.bow_history.specs.Cuts.{IsOnTheWayBy}
 use Rattle.bow_history.specs.DiskCuts.{disk_of, DiskLeads, StandsAheadToo}
 use Rattle.bow_history.specs.Fits.{Agrees, AgreesInHand}
 use Rattle.bow_history.specs.Histories.{session_after, journal_of}
-use Rattle.bow_history.specs.Journal.{Plan, Buffers, Place, beginning, ItemStep, IsGot, Legal}
+use Rattle.bow_history.specs.Journal.{Plan, Buffers, Place, beginning, IsGot, Legal}
 use Rattle.bow_history.specs.Legality.{IsReadyFor}
-use Rattle.bow_history.specs.Sessions.{Session, begun}
+use Rattle.bow_history.specs.Sessions.{Session}
 use Rattle.bow_history.specs.declared.items.Item.{Item}
 use Rattle.bow_history.specs.declared.items.Item.TheVariants.{Wrote, Got, Answered}
 use Rattle.bow_history.proofs.DiskCuts.{cuts_of_disk, cuts_of_disk_are_ahead}
@@ -39,17 +38,15 @@ use Rattle.bow_history.proofs.SoundTurns.{over_is_empty}
 use Rattle.bow_session.specs.Leads.{BeginsAt, StaysBelow}
 use Rattle.bow_session.specs.Runs.{begun_over}
 use Rattle.bow_tags.specs.declared.view.Entry.{Entry}
-use Rattle.bow_tags.specs.declared.view.Held.{Held}
-use Rattle.bow_tags.specs.declared.view.View.{View as SeatView}
 use Rattle.bow_tags.specs.Rule.{given_times}
-use Rattle.bow_tags.specs.Seats.{AllGiven, AnsweredOnce, IsLastWord, Numbered, Sitting, lanes_of, times_given}
+use Rattle.bow_tags.specs.Seats.{AllGiven, AnsweredOnce, IsLastWord, Numbered, Sitting, times_given}
 use Rattle.bow_tags.specs.Steps.{lane_of}
 use Rattle.bow_receipts.specs.declared.asks.Answer.{Answer}
 use Rattle.bow_receipts.specs.declared.hands.Hand.{Hand}
 use Rattle.bow_receipts.specs.declared.service.Service.{Service}
 use Rattle.bow_receipts.specs.Asking.{Asked, AsksAtLeast, asked_of, given_of, plan_of, request_of}
-use Rattle.bow_receipts.specs.Closing.{CallsLead, HoldsReads, IsClosed, entries_of, plan_by}
-use Rattle.bow_receipts.specs.Hands.{IsHeld, IsInHand, hand_at, ticket_in, tickets_of}
+use Rattle.bow_receipts.specs.Closing.{CallsLead, HoldsReads, IsClosed}
+use Rattle.bow_receipts.specs.Hands.{IsHeld, IsInHand, hand_at, ticket_in}
 use Rattle.bow_receipts.specs.Passes.{AreOwn, AreSeats, Caller, IsPass}
 use Rattle.bow_receipts.specs.Served.{IsReadBy, IsSeated, Serves, answered_of, held_of, view_under}
 use Rattle.bow_receipts.proofs.Histories.{histories_go_in_order}

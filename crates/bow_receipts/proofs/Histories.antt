@@ -1,7 +1,6 @@
 -- Histories go on.
 use Rattle.std.proofs.Common.{◌∙◌, suc, List, arith, refl, subst, sym}
 use Rattle.bow_units.specs.declared.sizes.Geometry.{Geometry}
-use Rattle.bow_units.specs.declared.requests.Op.{Op}
 use Rattle.bow_machine.specs.MemoryIsSound.{MemoryIsSound}
 use Rattle.bow_history.specs.Journal.{Plan}
 use Rattle.bow_history.specs.Sections.{SectionsRise}

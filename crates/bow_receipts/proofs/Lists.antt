@@ -1,5 +1,5 @@
 -- Lists of jobs and answers, caller by caller.
-use Rattle.std.proofs.Common.{◌≡◌, ◌≢◌, ◌⊎◌, inl, inr, ℕ, zero, suc, ◌+◌, ◌<◌, ◌≤◌, ◌++◌, ◌&&◌, Bool, true, false, not, cond, List, [], ◌∷◌, length, map, filter, ◌==◌, Option, Some, None, arith, refl, sym, ap, ◌∙◌, subst, eq-eqb, ne_eqb, length-append, append_assoc}
+use Rattle.std.proofs.Common.{◌≡◌, ◌≢◌, ◌⊎◌, inl, inr, ℕ, zero, suc, ◌+◌, ◌<◌, ◌≤◌, ◌++◌, ◌&&◌, Bool, true, false, cond, List, [], ◌∷◌, length, map, filter, ◌==◌, Option, Some, None, arith, refl, sym, ap, ◌∙◌, subst, eq-eqb, ne_eqb}
 use Rattle.std.specs.Prelude.{slice_get, slice_set, slice_index_or}
 use Rattle.std.proofs.lemmas.Bool.{cases_eq, cases_lt}
 use Rattle.std.proofs.lemmas.List.{append-nil}
@@ -8,9 +8,8 @@ use mathlib.Core.Option.{some}
 use lib.ListN.{get_elem?}
 use Rattle.bow_history.specs.Ends.{over_lanes}
 use Rattle.bow_tags.specs.declared.view.Entry.{Entry}
-use Rattle.bow_tags.specs.declared.view.Held.{Held}
 use Rattle.bow_tags.specs.declared.view.View.{View}
-use Rattle.bow_tags.specs.Rule.{In, times, given_times, job_times, server_times}
+use Rattle.bow_tags.specs.Rule.{In, times, given_times, server_times}
 use Rattle.bow_tags.specs.Steps.{SpeaksForAll}
 use Rattle.bow_tags.proofs.Lists.{times-append}
 

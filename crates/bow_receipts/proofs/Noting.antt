@@ -1,11 +1,8 @@
 -- What lies under the lock once a step is noted.
-use Rattle.std.proofs.Common.{◌≡◌, ◌≢◌, ℕ, zero, suc, ◌+◌, ◌*◌, ◌<◌, ◌≤◌, ◌++◌, ◌==◌, Bool, true, false, not, List, [], ◌∷◌, length, map, filter, Option, Some, None, arith, refl, sym, ap, ◌∙◌, subst, inl, inr, length-append, eq-eqb, ne_eqb, append_assoc}
+use Rattle.std.proofs.Common.{◌≡◌, ◌≢◌, ℕ, suc, ◌+◌, ◌<◌, ◌≤◌, ◌++◌, ◌==◌, not, List, [], ◌∷◌, length, map, Option, Some, None, arith, refl, sym, ap, ◌∙◌, subst, inl, inr, length-append, eq-eqb, ne_eqb}
 use Rattle.std.specs.Prelude.{slice_get, slice_set, vec_capacity}
 use Rattle.std.proofs.lemmas.Bool.{cases_eq, eqb-true}
 use Rattle.std.proofs.lemmas.List.{append-nil}
-use mathlib.Core.Option.{some, some-injective}
-use mathlib.Core.Path.{fun_ext}
-use lib.ListN.{get_elem?}
 use Rattle.atomic_table.specs.Seated.{TableId}
 use Rattle.bow_units.specs.declared.sizes.Geometry.{Geometry}
 use Rattle.bow_units.specs.declared.requests.Op.{Op}
@@ -13,7 +10,6 @@ use Rattle.bow_units.specs.declared.requests.Outcome.{Outcome}
 use Rattle.bow_disk.specs.Disk.{Content, IsCrash, IsShaped}
 use Rattle.bow_flat.specs.Flat.{put}
 use Rattle.bow_queue.specs.declared.tickets.Ticket.{Ticket}
-use Rattle.bow_machine.specs.Memory.{Memory}
 use Rattle.bow_machine.specs.Requests.{Request}
 use Rattle.bow_machine.specs.Steps.{Told, payload_of}
 use Rattle.bow_machine.specs.Steps.{Idle as ToldIdle, Moved as ToldMoved, Wrote as ToldWrote, Got as ToldGot, Answered as ToldAnswered}
@@ -22,12 +18,10 @@ use Rattle.bow_core.specs.declared.turns.Step.{Step}
 use Rattle.bow_core.specs.declared.turns.Step.TheVariants.{Idle, Moved, Wrote, Got, Answered}
 use Rattle.bow_core.specs.declared.turns.Turn.{Turn as OwnTurn}
 use Rattle.bow_core.specs.Steps.{IsStep}
-use Rattle.bow_core.specs.Turns.{told_of, turn_of as machine_turn}
+use Rattle.bow_core.specs.Turns.{told_of}
 use Rattle.bow_core.specs.Views.{View}
 use Rattle.bow_history.specs.declared.items.Item.{Item}
 use Rattle.bow_history.specs.declared.items.Item.TheVariants as items
-use Rattle.bow_history.specs.DiskCuts.{disk_of}
-use Rattle.bow_history.specs.Ends.{over_lanes}
 use Rattle.bow_history.specs.Histories.{session_after}
 use Rattle.bow_history.specs.Journal.{Plan}
 use Rattle.bow_history.specs.Promises.{items as listed, more}
@@ -38,19 +32,18 @@ use Rattle.bow_tags.specs.declared.view.Entry.{Entry}
 use Rattle.bow_tags.specs.declared.view.Held.{Held}
 use Rattle.bow_tags.specs.declared.view.View.{View as SeatView}
 use Rattle.bow_tags.specs.Rule.{In}
-use Rattle.bow_tags.specs.Steps.{after_answer, entry, held, others, GivenBelow}
+use Rattle.bow_tags.specs.Steps.{after_answer, entry, held, others}
 use Rattle.bow_receipts.specs.declared.asks.Answer.{Answer}
-use Rattle.bow_receipts.specs.declared.asks.Call.{Call}
 use Rattle.bow_receipts.specs.declared.hands.Hand.{Hand}
 use Rattle.bow_receipts.specs.declared.service.Service.{Service}
-use Rattle.bow_receipts.specs.Asking.{Asked, AsksAtLeast, FitsSize, asked_of, blank, given_of, request_of}
+use Rattle.bow_receipts.specs.Asking.{Asked, AsksAtLeast, asked_of, blank, given_of}
 use Rattle.bow_receipts.specs.Calls.{AreCalls}
 use Rattle.bow_receipts.specs.Copies.{read_by}
-use Rattle.bow_receipts.specs.Hands.{IsHeld, IsInHand, hand_at, lane_with, ticket_in, tickets_of}
-use Rattle.bow_receipts.specs.Noted.{IsAnswered, IsNoted, IsOfHand, IsStill, IsTurnOf, answer_to, call_to}
+use Rattle.bow_receipts.specs.Hands.{IsInHand, hand_at, lane_with, ticket_in, tickets_of}
+use Rattle.bow_receipts.specs.Noted.{IsAnswered, IsNoted, IsStill, IsTurnOf, answer_to, call_to}
 use Rattle.bow_receipts.specs.Served.{IsKept, IsReadBy, IsSeated, IsServed, Serves, answered_of, count_of, entry_of, held_of, view_under}
 use Rattle.bow_receipts.proofs.Calls.{answered_more, got_more, wrote_more}
-use Rattle.bow_receipts.proofs.Lists.{Below, at_within, filter_at, in_filter, in_single, below_next, below_other, clash, filter_in, filter_more, filter_other, filter_out, index_set_here, index_set_there, map_more, more_at, one_of, over_equal, over_more, set_length}
+use Rattle.bow_receipts.proofs.Lists.{Below, at_within, filter_at, in_filter, in_single, below_next, below_other, filter_in, filter_more, filter_other, filter_out, index_set_here, index_set_there, map_more, more_at, over_equal, over_more, set_length}
 use Rattle.bow_receipts.proofs.OpAsks.{for_ask, for_bytes}
 use Rattle.bow_receipts.proofs.Serving.{HandOf, IsOfWaiting, actor_for, after_is, answered_item, asked_lane, asks_now, fits_ask, got_item, hand_of, item_is, lanes_are, may, memory, same_lane, seat, sizes_are, sound, st, waits, wrote_item}
 use Rattle.bow_receipts.proofs.Turns.{cuts_on, did_step, fine_on, push, session_on}

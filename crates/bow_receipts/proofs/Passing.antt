@@ -1,5 +1,5 @@
 -- Passes between their calls.
-use Rattle.std.proofs.Common.{◌≡◌, ℕ, zero, suc, ◌+◌, ◌<◌, ◌≤◌, ◌++◌, List, [], ◌∷◌, length, get_or, Option, Some, None, arith, refl, sym, ap, ◌∙◌, subst, inl, inr, length-append}
+use Rattle.std.proofs.Common.{◌≡◌, ℕ, zero, suc, ◌+◌, ◌<◌, ◌≤◌, ◌++◌, List, [], ◌∷◌, length, Some, None, arith, refl, sym, ap, ◌∙◌, subst, inl, inr, length-append}
 use Rattle.std.specs.Prelude.{slice_get, slice_index_or, sum}
 use mathlib.Core.Option.{some, some-injective, some-ne-none}
 use lib.ListN.{get_elem?}
@@ -8,12 +8,11 @@ use Rattle.bow_units.specs.declared.requests.Op.{Op}
 use Rattle.bow_tags.specs.declared.view.Entry.{Entry}
 use Rattle.bow_tags.specs.declared.view.View.{View as SeatView}
 use Rattle.bow_tags.specs.declared.view.Stance.TheVariants.{Idle}
-use Rattle.bow_tags.specs.Rule.{new_view, fresh_lane}
-use Rattle.bow_tags.specs.Seats.{Sitting, IsFirstLane, Numbered, after_post, lanes_of}
+use Rattle.bow_tags.specs.Seats.{Sitting, IsFirstLane, after_post}
 use Rattle.bow_tags.specs.Steps.{entry, lane_of}
 use Rattle.bow_receipts.specs.declared.asks.Answer.{Answer}
 use Rattle.bow_receipts.specs.Openings.{may_of}
-use Rattle.bow_receipts.specs.Passes.{AreOwn, AreSeats, Caller, IsPass}
+use Rattle.bow_receipts.specs.Passes.{AreSeats, Caller, IsPass}
 use Rattle.bow_receipts.proofs.Lists.{at_within, clash, more_at}
 use Rattle.bow_receipts.proofs.Sums.{sum_at}
 

@@ -1,5 +1,5 @@
 -- Lists that are gone through from front to back.
-use Rattle.std.proofs.Common.{◌≡◌, ℕ, ◌+◌, ◌<◌, ◌≤◌, ◌++◌, List, [], ◌∷◌, length, arith, ap, ◌∙◌, length-append}
+use Rattle.std.proofs.Common.{◌≡◌, ℕ, ◌+◌, ◌<◌, ◌≤◌, ◌++◌, List, [], ◌∷◌, length, arith, ap, length-append}
 
 -- one goes over from the rest
 pub over : {A : Type 0} (done xs ys : List A) (x : A) (n : ℕ) → xs ≡ x ∷ ys → length done + length xs ≡ n → length (done ++ x ∷ []) + length ys ≡ n

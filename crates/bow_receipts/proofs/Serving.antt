@@ -1,11 +1,10 @@
 -- The device makes a step: what it told is of a caller, with room for it.
-use Rattle.std.proofs.Common.{◌≡◌, ◌≢◌, ℕ, zero, suc, ◌+◌, ◌*◌, ◌-◌, ◌^◌, ◌<◌, ◌≤◌, ◌++◌, ◌==◌, Bool, true, false, List, [], ◌∷◌, length, map, filter, Option, Some, None, arith, refl, sym, ap, ◌∙◌, subst, inl, inr, length-append}
-use Rattle.std.specs.Prelude.{slice_get, vec_capacity}
+use Rattle.std.proofs.Common.{◌≡◌, ℕ, zero, suc, ◌+◌, ◌*◌, ◌-◌, ◌^◌, ◌<◌, ◌≤◌, ◌++◌, ◌==◌, List, [], ◌∷◌, length, map, Option, Some, None, arith, refl, sym, ap, ◌∙◌, subst, inl, inr, length-append}
+use Rattle.std.specs.Prelude.{slice_get}
 use Rattle.std.specs.Option.{option_map}
 use Rattle.std.proofs.lemmas.Bool.{cases_lt}
 use mathlib.Core.Option.{some}
 use mathlib.Core.Path.{fun_ext}
-use lib.ListN.{get_elem?}
 use Rattle.atomic_table.specs.Seated.{TableId}
 use Rattle.bow_units.specs.Sizes.{IsValid}
 use Rattle.bow_units.specs.declared.sizes.Geometry.{Geometry}
@@ -16,14 +15,13 @@ use Rattle.bow_disk.specs.Disk.{Content}
 use Rattle.bow_chain.specs.Contents.{Contents}
 use Rattle.bow_flat.specs.Flat.{Event}
 use Rattle.bow_queue.specs.declared.tickets.Ticket.{Ticket}
-use Rattle.bow_machine.specs.Calls.{Call as DiskCall, Reply}
 use Rattle.bow_machine.specs.Memory.{Memory}
 use Rattle.bow_machine.specs.MemoryIsSound.{MemoryIsSound}
 use Rattle.bow_machine.specs.MemoryLaws.{CanHaveIt}
 use Rattle.bow_machine.specs.Requests.{Request, refusal, request_of as waiting_of}
-use Rattle.bow_machine.specs.Steps.{Told, call_of, extent_of, payload_of}
+use Rattle.bow_machine.specs.Steps.{Told, call_of, extent_of}
 use Rattle.bow_machine.specs.Steps.{Idle as ToldIdle, Moved as ToldMoved, Wrote as ToldWrote, Got as ToldGot, Answered as ToldAnswered}
-use Rattle.bow_machine.specs.Tasks.{Turn, Map as MapTurn, task_of}
+use Rattle.bow_machine.specs.Tasks.{Map as MapTurn, task_of}
 use Rattle.bow_machine.specs.Told.{ToldRow}
 use Rattle.bow_machine.proofs.MappedTests.{write_inside, read_inside}
 use Rattle.bow_machine.proofs.SoundTold.{steps_tell_so}
@@ -31,7 +29,6 @@ use Rattle.bow_core.specs.declared.turns.Step.{Step}
 use Rattle.bow_core.specs.declared.turns.Step.TheVariants.{Idle, Moved, Wrote, Got, Answered}
 use Rattle.bow_core.specs.declared.turns.Turn.{Turn as OwnTurn}
 use Rattle.bow_core.specs.declared.turns.Turn.TheVariants as turns
-use Rattle.bow_core.specs.Calls.{RepliesTo}
 use Rattle.bow_core.specs.Steps.{IsStep}
 use Rattle.bow_core.specs.Turns.{told_of, turn_of as machine_turn}
 use Rattle.bow_core.specs.Views.{View}
@@ -43,7 +40,6 @@ use Rattle.bow_history.specs.Ends.{HasAtMost, over_lanes, items_left, items_made
 use Rattle.bow_history.specs.Fits.{IsSeat}
 use Rattle.bow_history.specs.Histories.{session_after, journal_of, with_items}
 use Rattle.bow_history.specs.Journal.{Plan}
-use Rattle.bow_history.specs.Promises.{items as listed}
 use Rattle.bow_history.specs.Sections.{SectionsRise}
 use Rattle.bow_history.specs.Sessions.{Session, Turned, Steps, begun, turn_of, unknown, device_step, told_to, after_turn_of, after_turn, item_of, item_of_turn, item_in, call_of_turn, first_in, lane_of, IsActor, IsFor, IsTurn}
 use Rattle.bow_history.specs.SoundSessions.{IsSoundSession, MayRun}

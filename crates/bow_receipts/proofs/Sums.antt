@@ -1,7 +1,7 @@
 -- How many calls there may be in all.
-use Rattle.std.proofs.Common.{◌≡◌, ℕ, zero, suc, ◌+◌, ◌<◌, ◌≤◌, List, [], ◌∷◌, length, drop, get_or, arith, refl, sym, ap, ◌∙◌}
+use Rattle.std.proofs.Common.{◌≡◌, ℕ, zero, suc, ◌+◌, ◌<◌, ◌≤◌, List, [], ◌∷◌, length, get_or, arith, refl, ap}
 use Rattle.std.proofs.lemmas.List.Sums.{sum_by-cons}
-use Rattle.std.specs.Prelude.{sum, slice_index_or, replicate, Option, None}
+use Rattle.std.specs.Prelude.{sum, replicate, Option, None}
 use Rattle.bow_history.specs.Ends.{over_lanes}
 use Rattle.bow_receipts.specs.declared.hands.Hand.{Hand}
 use Rattle.bow_receipts.specs.Hands.{hand_at}

@@ -1,11 +1,9 @@
 -- What one turn does on the disk, and that a history goes on by it.
-use Rattle.std.proofs.Common.{◌≡◌, ℕ, ◌+◌, ◌-◌, ◌^◌, ◌≤◌, ◌++◌, max, List, [], ◌∷◌, length, Option, Some, None, arith, refl, sym, ap, ◌∙◌, subst}
+use Rattle.std.proofs.Common.{◌≡◌, ℕ, ◌+◌, ◌-◌, ◌^◌, ◌≤◌, ◌++◌, max, List, [], ◌∷◌, Option, Some, None, arith, refl, sym, ap, ◌∙◌, subst}
 use Rattle.std.specs.Option.{option_map}
 use Rattle.bow_units.specs.Causes.{Rose}
 use Rattle.bow_units.specs.declared.sizes.Geometry.{Geometry}
 use Rattle.bow_disk.specs.Disk.{Content, IsCrash, IsShaped, Goes}
-use Rattle.bow_chain.specs.Contents.{contents_of}
-use Rattle.bow_guard.specs.Cuts.{candidates_of}
 use Rattle.bow_machine.specs.Calls.{Call, Reply, Failed, Succeeded, calls_in, Passes}
 use Rattle.bow_machine.specs.MemoryLaws.{IsOnDevice}
 use Rattle.bow_core.specs.Calls.{DoesOne, HasFault}
@@ -22,7 +20,7 @@ use Rattle.bow_history.specs.declared.items.Item.{Item}
 use Rattle.bow_history.proofs.Sessions.{turns_keep_session}
 use Rattle.bow_history.proofs.DiskCuts.{turns_have_cuts}
 use Rattle.bow_session.specs.Leads.{StaysBelow}
-use Rattle.bow_session.specs.Runs.{core_of, begun_over}
+use Rattle.bow_session.specs.Runs.{begun_over}
 use Rattle.bow_session.proofs.Cutting.{DidTold}
 use Rattle.bow_receipts.specs.Served.{view_under}
 

@@ -7,9 +7,7 @@ use Rattle.bow_core.specs.declared.turns.Step.{Step}
 use Rattle.bow_core.specs.declared.turns.Step.TheVariants.{Idle, Moved, Wrote, Got, Answered}
 use Rattle.bow_core.specs.declared.turns.Turn.{Turn}
 use Rattle.bow_core.specs.declared.turns.Turn.TheVariants as turns
-use Rattle.bow_history.specs.declared.items.Item.{Item}
 use Rattle.bow_history.specs.declared.items.Item.TheVariants as items
-use Rattle.bow_tags.specs.declared.view.Held.{Held}
 use Rattle.bow_tags.specs.Rule.{In}
 use Rattle.bow_tags.specs.Steps.{HoldsJob, after_answer, held}
 use Rattle.bow_receipts.specs.declared.asks.Answer.{Answer}

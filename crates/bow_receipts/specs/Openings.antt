@@ -1,5 +1,5 @@
 -- Callers before their first calls.
-use Rattle.std.specs.Prelude.{◌≡◌, ℕ, ◌<◌, ◌≤◌, List, [], ◌∷◌, length, slice_index_or, sum}
+use Rattle.std.specs.Prelude.{◌≡◌, ℕ, ◌<◌, ◌≤◌, List, [], length, slice_index_or, sum}
 use Rattle.atomic_table.specs.Seated.{TableId}
 use Rattle.bow_units.specs.declared.requests.Op.{Op}
 use Rattle.bow_tags.specs.Seats.{Sitting, Numbered, IsFirstLane, IsFirstServer, lanes_of}

@@ -1,10 +1,10 @@
 -- What contracts see of the callers.
-use Rattle.std.specs.Prelude.{◌≡◌, ℕ, ◌+◌, ◌<◌, ◌≤◌, List, [], ◌∷◌, ◌++◌, length, slice_get, slice_index_or, Some}
+use Rattle.std.specs.Prelude.{◌≡◌, ℕ, ◌+◌, ◌<◌, ◌≤◌, List, [], ◌∷◌, ◌++◌, length, slice_get, Some}
 use Rattle.atomic_table.specs.Seated.{TableId}
 use Rattle.bow_units.specs.declared.requests.Op.{Op}
 use Rattle.bow_tags.specs.declared.view.Entry.{Entry}
 use Rattle.bow_tags.specs.declared.view.Stance.TheVariants.{Idle}
-use Rattle.bow_tags.specs.Seats.{Sitting, lanes_of}
+use Rattle.bow_tags.specs.Seats.{Sitting}
 use Rattle.bow_tags.specs.Steps.{entry, lane_of}
 use Rattle.bow_receipts.specs.declared.asks.Answer.{Answer}
 

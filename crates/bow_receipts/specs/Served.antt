@@ -1,6 +1,5 @@
 -- What lies under the lock, and when it is the history of its callers.
 use Rattle.std.specs.Prelude.{◌≡◌, ℕ, ◌+◌, ◌*◌, ◌-◌, ◌^◌, ◌<◌, ◌≤◌, List, [], ◌∷◌, length, map, slice_get, Option, Some, filter, ◌==◌, vec_capacity}
-use Rattle.std.specs.Option.{option_map}
 use Rattle.bow_units.specs.declared.requests.Op.{Op}
 use Rattle.bow_units.specs.declared.requests.Op.TheVariants as ops
 use Rattle.bow_units.specs.declared.sizes.Geometry.{Geometry}
@@ -13,7 +12,7 @@ use Rattle.bow_history.specs.Ends.{over_lanes}
 use Rattle.bow_history.specs.Journal.{Plan}
 use Rattle.bow_history.specs.Promises.{Core, IsSession, state_of}
 use Rattle.bow_history.specs.Promises as promised
-use Rattle.bow_history.specs.Sessions.{Session, Turned, begun}
+use Rattle.bow_history.specs.Sessions.{Turned}
 use Rattle.bow_history.specs.declared.items.Item.{Item}
 use Rattle.bow_session.specs.Leads.{StaysBelow}
 use Rattle.bow_session.specs.Runs.{begun_over, core_of}
@@ -29,7 +28,6 @@ use Rattle.bow_receipts.specs.declared.hands.Hand.{Hand}
 use Rattle.bow_receipts.specs.declared.service.Service.{Service}
 use Rattle.bow_receipts.specs.Asking.{Asked, AsksAtLeast, FitsSize, asked_of, blank, given_of, request_of}
 use Rattle.bow_receipts.specs.Calls.{AreCalls}
-use Rattle.bow_receipts.specs.Copies.{read_by}
 use Rattle.bow_receipts.specs.Hands.{IsInHand, hand_at, tickets_of}
 
 -- a call, as the tags have it

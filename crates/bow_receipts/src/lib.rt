@@ -20,3 +20,6 @@ pub use laws::{calls_law, history_law};
 pub use naming::Naming;
 pub use passes::Pass;
 pub use seating::Callers;
+
+#[cfg(test)]
+mod tests;

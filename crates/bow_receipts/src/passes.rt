@@ -29,6 +29,13 @@ impl<J: Naming<D>, D> Model for Pass<J, D> {
 }
 
 impl<J: Naming<D>, D> Pass<J, D> {
+    /// The number of its caller, from 0 on.
+    pub fn lane(&self) -> u32
+        ensures { result ≡ self.now.lane }
+    {
+        self.lane
+    }
+
     /// The number of calls that it has made.
     pub fn made(&self) -> u32
         ensures { result ≡ self.now.made }

@@ -1,4 +1,4 @@
-use Rattle.std.proofs.Common.{◌≡◌, ap, sym, subst}
+use Rattle.std.proofs.Common.{ap, subst}
 use Rattle.std.specs.Prelude.{vec_capacity}
 use Rattle.bow_tags.proofs.Gathered.{middle}
 use Rattle.bow_receipts.specs.Passes.{Caller, IsPass}

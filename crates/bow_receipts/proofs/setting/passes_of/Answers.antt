@@ -1,4 +1,4 @@
-use Rattle.std.proofs.Common.{slice_index_or, ◌≡◌, ◌<◌, ◌∙◌, ◌∷◌, length, arith, ap, sym, subst, refl, rules}
+use Rattle.std.proofs.Common.{slice_index_or, ◌≡◌, ◌<◌, ◌∙◌, length, arith, ap, sym, subst, refl, rules}
 use Rattle.bow_tags.proofs.Gathered.{middle, member}
 use Rattle.bow_tags.proofs.Lists.{pushed}
 use Rattle.bow_units.specs.declared.requests.Op.{Op}

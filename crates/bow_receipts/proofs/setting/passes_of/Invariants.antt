@@ -1,4 +1,4 @@
-use Rattle.std.proofs.Common.{◌≡◌, ◌+◌, ◌≤◌, ◌++◌, length}
+use Rattle.std.proofs.Common.{◌≡◌, ◌+◌, ◌++◌, length}
 use Rattle.bow_tags.specs.Seats.{Numbered}
 use Rattle.bow_receipts.specs.Openings.{IsNewPass}
 use Rattle.bow_receipts.proofs.setting.passes_of.Given as goal

@@ -1,8 +1,7 @@
-use Rattle.std.proofs.Common.{◌≡◌, ℕ, ◌<◌, ◌++◌, ◌∙◌, List, [], ◌∷◌, length, inl, ap, sym, subst, arith, refl}
-use mathlib.Core.Option.{some}
+use Rattle.std.proofs.Common.{◌≡◌, ◌++◌, ◌∙◌, List, [], ◌∷◌, length, inl, ap, sym, subst, arith, refl}
 use lib.ListN.{get_elem?}
 use Rattle.bow_units.specs.declared.requests.Op.{Op}
-use Rattle.bow_tags.specs.Seats.{AllGiven, AnsweredOnce, NoJobs, Sitting, lanes_of}
+use Rattle.bow_tags.specs.Seats.{AllGiven, AnsweredOnce, Sitting, lanes_of}
 use Rattle.bow_receipts.specs.declared.asks.Answer.{Answer}
 use Rattle.bow_receipts.specs.Closing.{IsClosed}
 use Rattle.bow_receipts.proofs.Ended.{in_one, is_closed, own_of, seat_pass}

@@ -1,4 +1,4 @@
-use Rattle.std.proofs.Common.{◌≡◌, ◌*◌, ◌≤◌, ◌∙◌, [], ◌∷◌, length, Option, None, ap, sym, subst, arith, rules}
+use Rattle.std.proofs.Common.{◌≡◌, ◌*◌, ◌≤◌, ◌∙◌, [], ◌∷◌, length, Option, None, ap, sym, subst, rules}
 use Rattle.std.specs.Prelude.{replicate, sum, vec_capacity}
 use Rattle.bow_tags.specs.Rule.{new_view}
 use Rattle.bow_tags.specs.Seats.{lanes_of}

@@ -1,7 +1,6 @@
 use Rattle.std.proofs.Common.{◌∙◌, ap, sym, subst, refl}
-use Rattle.std.specs.Vec.{with_item}
 use Rattle.bow_tags.specs.Seats.{after_take}
-use Rattle.bow_receipts.specs.Asking.{FitsSize, blank}
+use Rattle.bow_receipts.specs.Asking.{FitsSize}
 use Rattle.bow_receipts.specs.declared.hands.Hand.{Hand}
 use Rattle.bow_receipts.proofs.Admitting.{place, serials, serves_admitted, serves_looked, whole}
 use Rattle.bow_receipts.proofs.service.Service.admit.Goals as goal

@@ -1,5 +1,3 @@
-use Rattle.std.proofs.Common.{subst, sym}
-use Rattle.bow_core.specs.Steps.{IsStep}
 use Rattle.bow_receipts.proofs.Serving.{told_has_room}
 use Rattle.bow_receipts.proofs.Noting.{serves_after}
 use Rattle.bow_receipts.proofs.service.Service.step.Goals as goal
