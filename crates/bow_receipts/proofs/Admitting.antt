@@ -211,9 +211,9 @@ module _ {D R : Type 0} (stated : D → Option Geometry) (content : D → Option
       fit_now : (l n : ℕ) (o : Op) → request_of next l n ≡ Some o → FitsSize g.block_size o
       fit_now l n o at = elim (cases_eq l lane) [
         | inl is ↦ elim (more_at (asked.of lane) (blank op) o n (ap (λ (xs : List Op). slice_get xs n) (sym asked_here) ∙ subst (λ z. request_of next z n ≡ Some o) is at)) [
-            | inl before ↦ (k.kept).fit lane n o before
-            | inr last ↦ subst (FitsSize g.block_size) (sym last.1) (subst (λ z. FitsSize z (blank op)) (k.kept).size fits)
-          ]
+          | inl before ↦ (k.kept).fit lane n o before
+          | inr last ↦ subst (FitsSize g.block_size) (sym last.1) (subst (λ z. FitsSize z (blank op)) (k.kept).size fits)
+        ]
         | inr apart ↦ (k.kept).fit l n o (ap (λ (xs : List Op). slice_get xs n) (sym (asked_there l apart)) ∙ at)
       ]
 

@@ -116,11 +116,11 @@ pub own_calls : (given got : List (Entry Op Answer)) (lane made : ℕ) → Below
 own_calls given got lane made once made_once numbers own among =
     let many : answered_of given lane ≡ made = below_one given lane (answered_of given lane) made once made_once in
     same_list (given_of lane given) got (many ∙ sym own.many) (λ n x at.
-      let of = own.each n x at in
-      let there = among n x at in
-      let kept = filter_at (λ (y : Entry Op Answer). y.lane == lane) given there.0 x there.1 (eq-eqb x.lane lane of.0) in
-      let number = numbers kept.0 x kept.1 in
-      subst (λ k. slice_get (given_of lane given) k ≡ Some x) (sym number ∙ of.1) kept.1)
+    let of = own.each n x at in
+    let there = among n x at in
+    let kept = filter_at (λ (y : Entry Op Answer). y.lane == lane) given there.0 x there.1 (eq-eqb x.lane lane of.0) in
+    let number = numbers kept.0 x kept.1 in
+    subst (λ k. slice_get (given_of lane given) k ≡ Some x) (sym number ∙ of.1) kept.1)
 
 -- ----------------------------------------------------------------------------------------------------------------
 -- Where the calls lead.
@@ -223,11 +223,15 @@ module _ {D R : Type 0} (stated : D → Option Geometry) (content : D → Option
     where
       by : (o : Option Content) → content (k.first).disk ≡ o → StandsOver (k.first).geometry (k.first).memory o f → (c : Content) × (content (k.first).disk ≡ Some c) × IsReadyFor plan (k.first).memory (disk_of c) f
       by None is stands = absurd stands
-      by (Some c) is stands = (c, is, record {
-        stands = subst (λ z. IsStanding z (k.first).memory (contents_of c.now) (candidates_of c.candidates) f) (k.begun).sizes stands;
-        none = (k.begun).idle;
-        untouched = at.1;
-      })
+      by (Some c) is stands = (
+        c,
+        is,
+        record {
+          stands = subst (λ z. IsStanding z (k.first).memory (contents_of c.now) (candidates_of c.candidates) f) (k.begun).sizes stands;
+          none = (k.begun).idle;
+          untouched = at.1;
+        },
+      )
 
   pub leads : (f : Flat) → BeginsAt content plan k.first f → CallsLead content moment left (StandsFor g) plan k.first f s.core s.journal.items given
   leads f at =
@@ -284,16 +288,16 @@ own_of table size callers allowed given passes seats words server are is many al
     let zeroth : word.0 ≡ 0 = word.3 both.0.idle in
     let word_is : slice_index words i ≡ 4 * p.made = (let e = word.2 in let n = both.0.number_is in omega (arith, e, n, zeroth)) in
     let made : Below given i p.made = λ n. (
-      let o = once i n (omega (arith, inside, many, all)) in
-      let one : times_given i n (server ∷ []) ≡ given_times i n given = (let e = ap (given_times i n) is in omega (arith, e)) in (
-        (λ less. sym one ∙ o.0 (omega (arith, word_is, less))),
-        (λ past. sym one ∙ o.1 (let low : p.made ≤ n = omega (arith, past) in omega (arith, word_is, low))),
-      )) in
+    let o = once i n (omega (arith, inside, many, all)) in
+    let one : times_given i n (server ∷ []) ≡ given_times i n given = (let e = ap (given_times i n) is in omega (arith, e)) in (
+      (λ less. sym one ∙ o.0 (omega (arith, word_is, less))),
+      (λ past. sym one ∙ o.1 (let low : p.made ≤ n = omega (arith, past) in omega (arith, word_is, low))),
+    )) in
     let own : AreOwn i p.made p.got = subst (λ l. AreOwn l p.made p.got) lane (subst (AreOwn p.lane p.made) both.1 both.0.own) in
     own_calls given p.got i p.made (below i) made (numbers i) own (λ n x got_at.
-      let had : slice_get seat.view.got n ≡ Some x = ap (λ (xs : List (Entry Op Answer)). slice_get xs n) both.1 ∙ got_at in
-      let a = among i seat n x (elem_of seats i seat found.1) (elem_of seat.view.got n x had) in
-      (a.2, ap (λ (xs : List (Entry Op Answer)). slice_get xs a.2) (sym is) ∙ only a.0 a.1 a.2 x a.3 a.4))
+    let had : slice_get seat.view.got n ≡ Some x = ap (λ (xs : List (Entry Op Answer)). slice_get xs n) both.1 ∙ got_at in
+    let a = among i seat n x (elem_of seats i seat found.1) (elem_of seat.view.got n x had) in
+    (a.2, ap (λ (xs : List (Entry Op Answer)). slice_get xs a.2) (sym is) ∙ only a.0 a.1 a.2 x a.3 a.4))
   where
     seat_at : (xs : List (Sitting Op Answer)) (j : ℕ) → j < length xs → (s : Sitting Op Answer) × (slice_get xs j ≡ Some s)
     seat_at [] j less = absurd (omega (arith, less))

@@ -202,7 +202,7 @@ module _ {P Q : Type 0} where
       | inr ne ↦ let more = times_more given x x.lane i in let one = (h i).0 (omega (arith, less, ne)) in let none = misses_number x x.lane i (λ e. ne (sym e ∙ is)) in omega (arith, more, none, one)
     ],
     λ past. let more = times_more given x x.lane i in let none = (h i).1 (λ z. past (omega (arith, z))) in
-      let miss = misses_number x x.lane i (λ e. past (omega (arith, e, is))) in omega (arith, more, none, miss),
+        let miss = misses_number x x.lane i (λ e. past (omega (arith, e, is))) in omega (arith, more, none, miss),
   )
 
   -- with one of another

@@ -201,7 +201,7 @@ module _ {D R : Type 0} (stated : D → Option Geometry) (content : D → Option
           bytes = λ plan asks i x at. subst (λ (f : ℕ → ℕ → List ℕ). IsReadBy x.ask (f x.lane x.number) x.answer.bytes) (sym (kept plan (base plan asks)))
               ((seat stated content moment left faults g lanes allowed table begins s k plan asks).bytes i x (ap (λ (v : SeatView Op Answer). slice_get v.given i) (sym view) ∙ at));
           kept = subst (λ v. IsKept g lanes allowed v new.hands.items new.journal.items new.calls.items) (sym view) (
-            subst (λ h. IsKept g lanes allowed s.server.view h new.journal.items new.calls.items) (sym n.hands) (
+              subst (λ h. IsKept g lanes allowed s.server.view h new.journal.items new.calls.items) (sym n.hands) (
               subst (λ c. IsKept g lanes allowed s.server.view s.hands.items new.journal.items c) (sym n.calls) (record {
                 seats = (k.kept).seats;
                 speaks = (k.kept).speaks;
@@ -357,9 +357,9 @@ module _ {D R : Type 0} (stated : D → Option Geometry) (content : D → Option
       numbered_now : (l m : ℕ) (x : Entry Op Answer) → slice_get (given_of l (given ++ last ∷ [])) m ≡ Some x → x.number ≡ m
       numbered_now l m x at = elim (cases_eq l lane) [
         | inl is ↦ elim (more_at (given_of lane given) last x m (subst (λ (xs : List (Entry Op Answer)). slice_get xs m ≡ Some x) given_here (subst (λ z. slice_get (given_of z (given ++ last ∷ [])) m ≡ Some x) is at))) [
-            | inl before ↦ (k.kept).numbers lane m x before
-            | inr new_one ↦ ap (λ (y : Entry Op Answer). y.number) new_one.1 ∙ sym new_one.0
-          ]
+          | inl before ↦ (k.kept).numbers lane m x before
+          | inr new_one ↦ ap (λ (y : Entry Op Answer). y.number) new_one.1 ∙ sym new_one.0
+        ]
         | inr apart ↦ (k.kept).numbers l m x (subst (λ (xs : List (Entry Op Answer)). slice_get xs m ≡ Some x) (given_there l apart) at)
       ]
 

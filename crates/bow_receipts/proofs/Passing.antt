@@ -83,14 +83,14 @@ seats_more table size callers allowed passes seats now p s h is pass got = recor
   many = ap length is ∙ length-append seats (s ∷ []) ∙ ap (λ n. n + 1) h.many ∙ sym (length-append passes (p ∷ []));
   each = λ i q t at_q at_t. elim (more_at passes p q i at_q) [
     | inl before ↦ elim (more_at seats s t i (subst (λ (xs : List (Sitting Op Answer)). slice_get xs i ≡ Some t) is at_t)) [
-        | inl old ↦ h.each i q t before old
-        | inr new ↦ absurd (let within = at_within passes i q before in let many = h.many in let e = new.0 in omega (arith, within, many, e))
-      ]
+      | inl old ↦ h.each i q t before old
+      | inr new ↦ absurd (let within = at_within passes i q before in let many = h.many in let e = new.0 in omega (arith, within, many, e))
+    ]
     | inr last ↦ elim (more_at seats s t i (subst (λ (xs : List (Sitting Op Answer)). slice_get xs i ≡ Some t) is at_t)) [
-        | inl old ↦ absurd (let within = at_within seats i t old in let many = h.many in let e = last.0 in omega (arith, within, many, e))
-        | inr new ↦ subst (λ (z : Caller). IsPass table size callers allowed t z.lane z.made z.may × (t.view.got ≡ z.got)) (sym last.1)
-            (subst (λ (z : Sitting Op Answer). IsPass table size callers allowed z p.lane p.made p.may × (z.view.got ≡ p.got)) (sym new.1) (pass, got))
-      ]
+      | inl old ↦ absurd (let within = at_within seats i t old in let many = h.many in let e = last.0 in omega (arith, within, many, e))
+      | inr new ↦ subst (λ (z : Caller). IsPass table size callers allowed t z.lane z.made z.may × (t.view.got ≡ z.got)) (sym last.1)
+          (subst (λ (z : Sitting Op Answer). IsPass table size callers allowed z p.lane p.made p.may × (z.view.got ≡ p.got)) (sym new.1) (pass, got))
+    ]
   ];
 }
 

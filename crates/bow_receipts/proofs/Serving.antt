@@ -161,7 +161,7 @@ module _ (g : Geometry) (asked : Asked) (fit : (lane n : ℕ) (op : Op) → requ
   pub items_at_first : (m : Memory) (admitted : ℕ) → items_left (plan_of g asked) (count_of asked) (begun m admitted) ≤ 17 * over_lanes (count_of asked) asked.callers
   items_at_first m admitted =
       let each = over_most (items_of_lane (plan_of g asked) (count_of asked) (begun m admitted)) (λ l. 17 * count_of asked l) asked.callers
-          (λ l. let few = few_items (plan_of g asked) l (few_at l) 0 (count_of asked l - 0) in omega (arith, few)) in
+      (λ l. let few = few_items (plan_of g asked) l (few_at l) 0 (count_of asked l - 0) in omega (arith, few)) in
       let sum = seventeen (count_of asked) asked.callers in
       omega (arith, each, sum)
 
@@ -344,8 +344,11 @@ module _ {D R : Type 0} (stated : D → Option Geometry) (content : D → Option
           ∙ ap (λ (m : Memory). call_of s.core.geometry m (task_of s.core.geometry m (machine_turn own))) (memory plan asks)
 
       pub may : IsTurn plan (st plan asks) (Steps (actor_for s.hands.items own of) step.reply)
-      may = (actor_may plan asks own of, subst (λ o. CanHaveIt plan.sizes o step.reply) (sym call_is)
-          (subst (λ z. CanHaveIt z (call_of s.core.geometry s.core.memory (task_of s.core.geometry s.core.memory (machine_turn own))) step.reply) (sym (sizes_are plan asks)) (can_have s.core.geometry _ step.reply (step.made).may)))
+      may = (
+        actor_may plan asks own of,
+        subst (λ o. CanHaveIt plan.sizes o step.reply) (sym call_is)
+            (subst (λ z. CanHaveIt z (call_of s.core.geometry s.core.memory (task_of s.core.geometry s.core.memory (machine_turn own))) step.reply) (sym (sizes_are plan asks)) (can_have s.core.geometry _ step.reply (step.made).may)),
+      )
 
       pub item_is : item_in plan (st plan asks) (Steps (actor_for s.hands.items own of) step.reply) ≡ item_of plan (st plan asks) (told_of tells)
       item_is = ap (λ o. item_of_turn plan (st plan asks) o step.reply) (actor_turn plan asks own of)
@@ -382,9 +385,12 @@ module _ {D R : Type 0} (stated : D → Option Geometry) (content : D → Option
 
     holds_job : (t : Ticket) (r : Request) (h : HandOf g given jobs hands t r) → HoldsJob s.server.view (h.hand).job.lane (h.hand).job.number
     holds_job t r h =
-        let found = filter_found (λ (j : Held Op). j.lane == lane_with hands t) jobs (held (lane_with hands t) (answered_of given (lane_with hands t)) (h.held_is).ask) [] (h.held_is).job in
-        (found.0, (h.held_is).ask, found.1 ∙ ap (λ n. some (held n (answered_of given (lane_with hands t)) (h.held_is).ask)) (sym (h.held_is).lane_is)
-            ∙ ap (λ n. some (held (h.hand).job.lane n (h.held_is).ask)) (sym (h.held_is).number_is))
+        let found = filter_found (λ (j : Held Op). j.lane == lane_with hands t) jobs (held (lane_with hands t) (answered_of given (lane_with hands t)) (h.held_is).ask) [] (h.held_is).job in (
+          found.0,
+          (h.held_is).ask,
+          found.1 ∙ ap (λ n. some (held n (answered_of given (lane_with hands t)) (h.held_is).ask)) (sym (h.held_is).lane_is)
+              ∙ ap (λ n. some (held (h.hand).job.lane n (h.held_is).ask)) (sym (h.held_is).number_is),
+        )
 
     -- one more answer has room
     one_left : (t : Ticket) (r : Request) (h : HandOf g given jobs hands t r) → length given < over_lanes allowed lanes

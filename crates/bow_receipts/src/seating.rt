@@ -40,8 +40,12 @@ impl Callers {
         ensures size { IfOk result (λ c. c.size ≡ block_size) }
     {
         let numbers = calls.to_vec(alloc)?;
-        let (tags, lanes, servers) =
-            Tags::<Ask, Answer>::open(alloc, calls.len() as u32, 1, block_size)?;
+        let (tags, lanes, servers) = Tags::<Ask, Answer>::open(
+            alloc,
+            calls.len() as u32,
+            1,
+            block_size,
+        )?;
         Ok(Callers {
             tags,
             lanes,

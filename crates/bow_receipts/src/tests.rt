@@ -120,14 +120,20 @@ fn two_callers(rt: HostRuntime) -> Result<(), Fail> {
         return Err(Fail::from("other sizes"));
     }
     let callers = Callers::new(alloc, &[2, 2], geometry.block_size)?;
-    let (one, other, closed) =
-        by_two::<Brand, HostRuntime>(&rt, alloc, core, callers)?;
+    let (one, other, closed) = by_two::<Brand, HostRuntime>(&rt, alloc, core, callers)?;
     let (one, other) = (one.ok_or("no answer")?, other.ok_or("no answer")?);
     assert!(rt; one.bytes.as_slice().starts_with(b"of the first"));
     assert!(rt; other.bytes.as_slice().starts_with(b"of the second"));
     assert_eq!(rt; one.outcome, Outcome::Data);
     let place = closed.journal.get(one.place as usize).ok_or("no item")?;
-    assert_eq!(rt; *place, Item::Answered { lane: 0, number: 1, outcome: Outcome::Data });
+    assert_eq!(rt;
+        *place,
+        Item::Answered {
+            lane: 0,
+            number: 1,
+            outcome: Outcome::Data
+        }
+    );
     assert_eq!(rt; closed.journal.len(), 8);
     assert_eq!(rt; closed.calls.len(), 4);
     closed.core.close();

@@ -14,8 +14,8 @@ close-requires-clause-lanes g c =
     let table = c.self.invariant.0 in (
       are.many ∙ c.requires.all ∙ sym k.lanes_are ∙ ap lanes_of (sym table),
       λ i s at.
-      let p = seat_pass g.J.Naming.table g.J.Naming.sizes.block_size g.J.Naming.callers g.J.Naming.allowed c.args.passes.items c.seats_of-lanes.result.items are c.requires.order i s at in
-      (p.1.table_is ∙ sym table, p.1.lane_is),
+          let p = seat_pass g.J.Naming.table g.J.Naming.sizes.block_size g.J.Naming.callers g.J.Naming.allowed c.args.passes.items c.seats_of-lanes.result.items are c.requires.order i s at in
+          (p.1.table_is ∙ sym table, p.1.lane_is),
     )
 
 pub close-requires-clause-servers : goal.close-requires-clause-servers
@@ -26,16 +26,16 @@ close-requires-clause-servers g c =
     let long = ap (λ (xs : List (Sitting Op Answer)). length xs) items in (
       omega (arith, long),
       λ i s at.
-      let one = in_one c.push_reserved.new.self.items server s i items at in (
-        ap (λ (z : Sitting Op Answer). z.table) (sym one.1) ∙ k.table_is ∙ sym c.self.invariant.0,
-        ap (λ (z : Sitting Op Answer). z.view.speaks) (sym one.1) ∙ (k.kept).speaks ∙ ap (λ j. j ∷ []) (sym one.0),
-        ap (λ (z : Sitting Op Answer). z.view.servers) (sym one.1) ∙ (k.kept).servers ∙ sym long,
-      ),
+          let one = in_one c.push_reserved.new.self.items server s i items at in (
+            ap (λ (z : Sitting Op Answer). z.table) (sym one.1) ∙ k.table_is ∙ sym c.self.invariant.0,
+            ap (λ (z : Sitting Op Answer). z.view.speaks) (sym one.1) ∙ (k.kept).speaks ∙ ap (λ j. j ∷ []) (sym one.0),
+            ap (λ (z : Sitting Op Answer). z.view.servers) (sym one.1) ∙ (k.kept).servers ∙ sym long,
+          ),
     )
 
 pub close-requires-clause-free : goal.close-requires-clause-free
 close-requires-clause-free g c = inl (λ i s at.
-  (seat_pass g.J.Naming.table g.J.Naming.sizes.block_size g.J.Naming.callers g.J.Naming.allowed c.args.passes.items c.seats_of-lanes.result.items c.seats_of-lanes.ensures c.requires.order i s at).1.idle)
+    (seat_pass g.J.Naming.table g.J.Naming.sizes.block_size g.J.Naming.callers g.J.Naming.allowed c.args.passes.items c.seats_of-lanes.result.items c.seats_of-lanes.ensures c.requires.order i s at).1.idle)
 
 pub returns : goal.returns
 returns g c =
