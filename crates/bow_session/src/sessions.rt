@@ -3,6 +3,7 @@ ghost use Rattle.std.specs.Prelude.{◌≡◌, ◌+◌, ◌-◌, ◌%◌, ◌<�
 ghost use Rattle.std.specs.Prelude.{true, List, ◌++◌};
 ghost use Rattle.bow_history.specs.Ready.{is_actor_ready};
 ghost use Rattle.bow_history.specs.Sessions.{Turned};
+ghost use Rattle.bow_history.specs.SoundSessions.{IsSoundSession};
 ghost use Rattle.bow_history.specs.Complete.{IsComplete};
 ghost use Rattle.bow_history.specs.DiskCuts.{StandsAheadToo};
 ghost use Rattle.bow_history.specs.Fits.{Agrees};
@@ -310,9 +311,10 @@ impl<D: Disk, R: Ranges + Drop> Session<D, R> {
         self.desk.records.moments.as_slice()[item as usize]
     }
 
-    /// The sizes of the device.
+    /// The sizes of the device. The session is sound, whatever its disk has replied.
     pub fn geometry(&self) -> Geometry
-        ensures { result ≡ self.now.core.geometry }
+        ensures is { result ≡ self.now.core.geometry }
+        ensures sound { IsSoundSession (plan_in self.now) (state_in self.now) }
     {
         self.desk.core.geometry()
     }
