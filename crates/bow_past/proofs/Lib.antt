@@ -1,3 +1,6 @@
 pub mod Beside
+pub mod Kept
 pub mod Reached
-pub mod Routes
+pub mod Reading
+pub mod Stepping
+pub mod Theorem

@@ -1,1 +1,5 @@
+pub mod Agreement
+pub mod Inside
 pub mod Reach
+pub mod Readings
+pub mod Steps

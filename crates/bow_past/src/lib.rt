@@ -2,9 +2,13 @@
 //! put it. The older logs are read off the disk one by one, and none of them changes while the checkpoint stands.
 #![tactic(auto)]
 
+mod ended;
 mod laws;
+mod older;
 mod places;
-mod reading;
+mod readers;
+mod steps;
 
+pub use ended::{Ended, PastStep};
 pub use laws::past_law;
-pub use reading::{OlderFault, read_block, read_older};
+pub use readers::Past;

@@ -3,8 +3,7 @@ ghost use Rattle.std.specs.Prelude.{◌≡◌, ◌<◌};
 ghost use Rattle.bow_units.specs.Sizes.{IsValid};
 ghost use Rattle.bow_log.specs.Generations.{IsEntry, backup_of, generation_of};
 ghost use Rattle.bow_log.specs.Rules.{IsLog};
-ghost use Rattle.bow_chain.specs.Places.{hop, pass, base};
-ghost use Rattle.bow_chain.specs.Chains.{AreLogs, generations_of};
+ghost use Rattle.bow_chain.specs.Places.{hop, pass};
 
 use bow_log::{Entry, Log};
 use bow_units::Geometry;
@@ -35,20 +34,6 @@ pub(crate) fn place_by_log(log: &Log, geometry: Geometry, block: u64) -> u64
     let mut place = block;
     for entry in entries {
         place = place_by_entry(*entry, geometry, place);
-    }
-    place
-}
-
-/// Where these logs, the newest first, put the content of a block of the device.
-pub(crate) fn place_by_logs(logs: &[Log], geometry: Geometry, block: u64) -> u64
-    requires logs { AreLogs geometry logs.now }
-    requires on { block < geometry.blocks }
-    ensures is { result ≡ base (generations_of geometry logs.now) block }
-    ensures on { result < geometry.blocks }
-{
-    let mut place = block;
-    for index in (0..logs.len()).rev() {
-        place = place_by_log(&logs[index], geometry, place);
     }
     place
 }
