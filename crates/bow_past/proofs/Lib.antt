@@ -1,4 +1,5 @@
 pub mod Beside
+pub mod Clauses
 pub mod Kept
 pub mod Reached
 pub mod Reading

@@ -4,10 +4,9 @@ use Rattle.std.proofs.lemmas.Bool.{cases_eq}
 use Rattle.bow_units.specs.declared.sizes.Geometry.{Geometry}
 use Rattle.bow_log.specs.Generations.{Generation, generation_of}
 use Rattle.bow_log.specs.Spelling.{Fields}
-use Rattle.bow_flat.specs.Flat.{put}
 use Rattle.bow_chain.specs.Places.{pass, base}
 use Rattle.bow_chain.proofs.Counting.{some_inj}
-use Rattle.bow_past.specs.Agreement.{AreAmong, older_of}
+use Rattle.bow_past.specs.Agreement.{older_of}
 use Rattle.bow_past.specs.Readings.{missing_below, past_log, past_logs, place_by}
 
 -- ----------------------------------------------------------------------------------------------------------------
@@ -102,5 +101,5 @@ pub split : (older : List Generation) (n : ℕ) → n < length older → (above 
 split [] n below = absurd (omega (arith, below))
 split (log ∷ older) n below = elim (cases_eq n (length older)) [
   | inl same ↦ ([], log, older, refl, sym same)
-  | inr other ↦ let k = split older n (omega (arith, below, other)) in (log ∷ k.0, k.1, k.2, ap (λ (l : List Generation). log ∷ l) k.3.0, k.3.1)
+  | inr other ↦ let k = split older n (omega (arith, below, other)) in (log ∷ k.0, k.1, k.2, ap (λ (l : List Generation). log ∷ l) k.3, k.4)
 ]

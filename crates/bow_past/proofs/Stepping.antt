@@ -3,6 +3,7 @@ use Rattle.std.proofs.Common.{ℕ, ◌≡◌, ◌<◌, ◌+◌, ◌-◌, ◌++�
 use Rattle.std.specs.Prelude.{slice_set}
 use Rattle.std.specs.Option.{option_map}
 use Rattle.bow_units.specs.declared.failures.NoMemory.{NoMemory}
+use Rattle.bow_units.specs.Sizes.{IsValid}
 use Rattle.bow_units.specs.declared.sizes.Geometry.{Geometry}
 use Rattle.bow_units.specs.declared.requests.Phase.{Phase}
 use Rattle.bow_units.specs.declared.requests.Phase.TheVariants.{Trim, Arming, Checkpoint, Deciding, Committed}
@@ -141,3 +142,7 @@ module _ {D : Type 0} (stated : D → Option Geometry) (content : D → Option C
   pub found_none : (o : Option Fields) → FoundBy stated content moment left faults g wanted at v (Ok o) w → o ≡ None
       → (block : List ℕ) × ReadsBeside stated content moment left faults at (Gave block) v w × ((log : Fields) → ¬ IsWanted g block wanted log)
   found_none o found is = subst (λ x. FoundBy stated content moment left faults g wanted at v (Ok x) w) is found
+
+-- a device has blocks
+pub above_0 : (g h : Geometry) → g ≡ h → IsValid h → 0 < g.blocks
+above_0 g h same valid = let e = ap (λ (x : Geometry). x.blocks) same in omega (arith, e, valid)

@@ -1,18 +1,16 @@
 -- What a step of a reader gives, and that it still agrees with the session after it.
-use Rattle.std.proofs.Common.{ℕ, zero, suc, ◌≡◌, ◌<◌, ◌≤◌, ◌+◌, ◌-◌, ◌++◌, Bool, true, false, inl, inr, List, [], ◌∷◌, length, Option, Some, None, Result, Ok, Err, arith, refl, sym, ap, ◌∙◌, subst}
+use Rattle.std.proofs.Common.{◌≢◌, ℕ, suc, ◌≡◌, ◌<◌, ◌+◌, ◌++◌, true, inl, inr, List, [], ◌∷◌, length, Option, Some, None, arith, refl, sym, ap, ◌∙◌, subst}
 use Rattle.std.proofs.lemmas.Bool.{cases_eq}
 use Rattle.std.proofs.lemmas.List.{append-nil}
-use Rattle.bow_units.specs.declared.failures.NoMemory.{NoMemory}
 use Rattle.bow_units.specs.declared.sizes.Geometry.{Geometry}
-use Rattle.bow_units.specs.declared.requests.Phase.{Phase}
-use Rattle.bow_units.specs.declared.requests.Phase.TheVariants.{Trim, Arming, Checkpoint, Deciding, Committed}
+use Rattle.bow_units.specs.declared.requests.Phase.TheVariants.{Checkpoint}
 use Rattle.bow_disk.specs.Disk.{Content, Goes, Same}
 use Rattle.bow_log.specs.Generations.{Generation, generation_of}
 use Rattle.bow_log.specs.Faults.{parts_of}
 use Rattle.bow_log.specs.Spelling.{Fields}
-use Rattle.bow_chain.specs.Contents.{Contents, contents_of}
+use Rattle.bow_chain.specs.Contents.{contents_of}
 use Rattle.bow_chain.specs.Places.{base}
-use Rattle.bow_chain.specs.Sound.{StandsBehind, IsSound}
+use Rattle.bow_chain.specs.Sound.{StandsBehind}
 use Rattle.bow_chain.proofs.Bases.{bases_are_on}
 use Rattle.bow_chain.proofs.Counting.{some_inj}
 use Rattle.bow_flat.specs.Flat.{Flat, put}
@@ -21,22 +19,16 @@ use Rattle.bow_machine.specs.Calls.{ReadCall, Reply, Failed as FailedReply, Gave
 use Rattle.bow_machine.specs.Memory.{Memory}
 use Rattle.bow_machine.specs.Tasks.{spelling}
 use Rattle.bow_machine.proofs.Consequences.{block_other}
-use Rattle.bow_machine.proofs.SoundPast.{readers_follow}
 use Rattle.bow_core.specs.Calls.{DoesOne}
-use Rattle.bow_core.specs.Further.{BehindOver}
 use Rattle.bow_core.specs.Standing.{StandsIn, StandsOver}
-use Rattle.bow_core.specs.Views.{View}
 use Rattle.bow_session.specs.Sessions.{Run}
 use Rattle.bow_past.specs.Agreement.{Agrees, AgreesOver, AreAmong, older_of}
 use Rattle.bow_past.specs.Reach.{IsWanted, live}
-use Rattle.bow_past.specs.Readings.{Reading, KeepsLog, can_read, kept_of, missing_below, next_block, place_by}
-use Rattle.bow_past.specs.Steps.{GetsBlock, IsKeptOver, IsPastStep, LooksForLog, ReadsBeside}
-use Rattle.bow_past.specs.declared.ended.PastStep.{PastStep}
-use Rattle.bow_past.specs.declared.ended.PastStep.TheVariants as steps
+use Rattle.bow_past.specs.Readings.{Reading, KeepsLog, kept_of, next_block, place_by}
+use Rattle.bow_past.specs.Steps.{GetsBlock, LooksForLog, ReadsBeside}
 use Rattle.bow_past.proofs.Beside.{next_read, next_is}
 use Rattle.bow_past.proofs.Reached.{is_sound, reaches}
 use Rattle.bow_past.proofs.Reading.{missing_is, none_missing, older_behind, older_first, place_leads, split}
-use Rattle.bow_past.proofs.Stepping.{can_parts}
 
 put_same : {A : Type 0} (f : ℕ → A) (b : ℕ) (v : A) → put f b v b ≡ v
 put_same f b v = grind arith
@@ -110,8 +102,8 @@ module _ {D : Type 0} (stated : D → Option Geometry) (content : D → Option C
           let above = k.0 in
           let next = k.1 in
           let rest = k.2 in
-          let is : older ≡ above ++ next ∷ rest = k.3.0 in
-          let many : length rest ≡ looks.wanted = k.3.1 in
+          let is : older ≡ above ++ next ∷ rest = k.3 in
+          let many : length rest ≡ looks.wanted = k.4 in
           let missing = missing_is (kept_of p) (looks.log).sequence looks.wanted looks.missing in
           let there : AreAmong v.core.geometry (kept_of p) (above ++ next ∷ rest) = subst (AreAmong v.core.geometry (kept_of p)) is (among looks.log older looks.memory behind) in
           let place : place_by v.core.geometry (kept_of p) looks.log (suc (length rest)) 0 ≡ base (looks.log ∷ above) 0 =

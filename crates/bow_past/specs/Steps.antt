@@ -7,11 +7,15 @@ use Rattle.bow_log.specs.Generations.{Generation}
 use Rattle.bow_log.specs.Spelling.{Fields}
 use Rattle.bow_chain.specs.Contents.{contents_of}
 use Rattle.bow_chain.specs.Places.{base}
+use Rattle.bow_units.specs.Causes.{Rose}
+use Rattle.bow_flat.specs.Flat.{Flat}
+use Rattle.bow_core.specs.Further.{BehindIn}
 use Rattle.bow_core.specs.Ports.{Makes}
+use Rattle.bow_core.specs.Views.{View}
 use Rattle.bow_machine.specs.Calls.{ReadCall, Reply, Failed as FailedReply, Gave}
 use Rattle.bow_session.specs.Sessions.{Run}
 use Rattle.bow_past.specs.Reach.{IsWanted, live}
-use Rattle.bow_past.specs.Readings.{Reading, KeepsLog, can_read, kept_of, missing_below, next_block, place_by, with_ended}
+use Rattle.bow_past.specs.Readings.{Reading, KeepsLog, bytes_of, can_read, kept_of, missing_below, next_block, place_by, with_ended}
 use Rattle.bow_past.specs.declared.ended.Ended.TheVariants.{Got, Failed, Strange}
 use Rattle.bow_past.specs.declared.ended.PastStep.{PastStep}
 use Rattle.bow_past.specs.declared.ended.PastStep.TheVariants as steps
@@ -80,3 +84,22 @@ IsPastStep stated content moment left faults p old (Err none) q new = (q ≡ p) 
 abbrev pub IsKeptOver : Geometry → Option Content → Generation → List Generation → ℕ → List ℕ → Type 0
 IsKeptOver g None log older block bytes = ⊥
 IsKeptOver g (Some c) log older block bytes = live g (contents_of c.now) log (base (log ∷ older) block) ≡ bytes
+
+-- What was got of a block, by what the reader then has of it: what the live image keeps of it, with the log in memory
+-- and the older ones behind it; and so what was saved of it, where it is used.
+abbrev pub GotIsKept : {D : Type 0} → (D → Option Content) → View D → Flat → Reading → PastStep → Type 0
+GotIsKept content v f q (steps.Got block) = (bytes : List ℕ) × (bytes_of q block ≡ Some bytes)
+    × (f.used block ≡ true → bytes ≡ f.saved block)
+    × ((log : Generation) (older : List Generation) → v.memory.log ≡ Some log → BehindIn content v log older
+    → IsKeptOver v.geometry (content v.disk) log older block bytes)
+GotIsKept content v f q other = Unit {0}
+
+-- it is not strange
+abbrev pub IsNotStrange : PastStep → Type 0
+IsNotStrange (steps.Strange block) = ⊥
+IsNotStrange other = Unit {0}
+
+-- where it failed there was a fault of the disk
+abbrev pub HasFailed : PastStep → ℕ → ℕ → Type 0
+HasFailed (steps.Failed block) before now = Rose before now
+HasFailed other before now = Unit {0}

@@ -1,18 +1,11 @@
 // One step of a reader.
-ghost use Rattle.std.specs.Prelude.{◌≡◌, ◌+◌, ◌<◌, ◌≤◌, ℕ, suc, [], ◌++◌, ◌∷◌, length, replicate, take, map, slice_set, true, false, None, Some, Result, IfOk, IfErr, IfSome, OnOk, OnErr, MatchResult};
-ghost use Rattle.bow_units.specs.Causes.{Rose};
-ghost use Rattle.bow_units.specs.declared.sizes.Geometry.{Geometry};
-ghost use Rattle.bow_log.specs.Generations.{Generation, generation_of, fields_of};
+ghost use Rattle.std.specs.Prelude.{◌≡◌, ◌+◌, ◌<◌, length, None, Some, Result, IfOk, IfSome, OnErr};
 ghost use Rattle.bow_log.specs.Rules.{IsLog};
-ghost use Rattle.bow_log.specs.Spelling.{Fields};
 ghost use Rattle.bow_flat.specs.Flat.{Flat};
-ghost use Rattle.bow_core.specs.Further.{BehindIn, LedIn};
-ghost use Rattle.bow_core.specs.Openings.{KeepsImage};
 ghost use Rattle.bow_core.specs.Standing.{StandsIn};
 ghost use Rattle.bow_past.specs.Agreement.{Agrees};
-ghost use Rattle.bow_past.specs.Readings.{KeepsLog, bytes_of, can_read, kept_of, missing_below, next_block, place_by, with_ended};
 ghost use Rattle.bow_past.specs.Inside.{FoundBy, LooksBy, ReadsBy};
-ghost use Rattle.bow_past.specs.Steps.{IsPastStep, ReadsBeside};
+ghost use Rattle.bow_past.specs.Steps.{GotIsKept, HasFailed, IsNotStrange, IsPastStep, ReadsBeside};
 ghost use Rattle.bow_core.specs.Calls.{read_reply};
 
 use crate::ended::{Ended, PastStep};
@@ -37,6 +30,31 @@ impl Past {
     /// got of a block is what the live image keeps of it: for each flat state for which the device stands, what was
     /// saved of it, where it is used.
     pub fn step<D: Disk, R: Ranges + Drop>(
+        &mut self,
+        alloc: Global,
+        session: &mut Session<D, R>,
+    ) -> Result<PastStep, NoMemory>
+        requires agrees { Agrees D.content self.old session.old.core }
+        ensures step { IsPastStep D.stated D.content D.moment D.left_since D.faults self.old session.old result self.new
+            session.new }
+        ensures reach { (f : Flat) → StandsIn D.content session.old.core f → IfOk result (λ step. GotIsKept D.content
+            session.old.core f self.new step) }
+        ensures told { (f : Flat) → StandsIn D.content session.old.core f → IfOk result (λ step. IsNotStrange step) }
+        ensures cause { IfOk result (λ step. HasFailed step (D.faults session.old.core.disk) (D.faults
+            session.new.core.disk)) }
+        ensures still { session.new ≡ record session.old {
+          core = record session.old.core { disk = session.new.core.disk; calls = session.new.core.calls };
+        } }
+        ensures image { D.content session.new.core.disk ≡ D.content session.old.core.disk }
+        ensures stands { (f : Flat) → StandsIn D.content session.old.core f → StandsIn D.content session.new.core f }
+        ensures memory { OnErr result ((self.new ≡ self.old) × (session.new ≡ session.old)) }
+        ensures agrees { Agrees D.content self.new session.new.core }
+    {
+        self.go_on(alloc, session)
+    }
+
+    // The step itself.
+    fn go_on<D: Disk, R: Ranges + Drop>(
         &mut self,
         alloc: Global,
         session: &mut Session<D, R>,
