@@ -32,11 +32,11 @@ module _ (m : Member) (is_member : IsMember m) where
 
   in_place_plain : (i : List (List ℕ)) → IsInPlace m.sizes m.state.used m.state.saved i → IsLogged i → ⊥
   in_place_plain i is logged =
-      let zeroth : contents_of i 0 ≡ m.state.saved 0 = is 0 some all.zeroth in
+      let zeroth : contents_of i 0 ≡ m.state.saved 0 = is 0 some (inl refl) in
       (subst IsPlain (sym zeroth) all.plain) logged
 
   pub held_cut : (i j : List (List ℕ)) → HoldsSaved m i → CutBy false m.sizes i j → HoldsSaved m j
-  held_cut i j held cut = (cut.1, passed_holds m.sizes all.valid m.state.used m.state.saved all.zeroth all.plain i j held.0 cut.0 held.1)
+  held_cut i j held cut = (cut.1, passed_holds m.sizes all.valid m.state.used m.state.saved all.plain i j held.0 cut.0 held.1)
 
   pub held_back : (i j : List (List ℕ)) → HoldsSaved m i → WholeBy false m.sizes i j → HasSaved m j × HoldsSaved m j
   held_back i j (whole, inr is) (inl (logged, made)) = absurd (in_place_plain i is logged)

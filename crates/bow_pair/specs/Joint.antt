@@ -16,8 +16,8 @@ pub record Member : Type 0 where
   pub sizes : Geometry
   pub state : Flat
 
--- It has a checkpoint, in which block 0 is used and was saved without a magic; and it was flushed, so that a cut may
--- leave of each block what it may read as.
+-- It has a checkpoint, of which block 0 was saved without a magic; and it was flushed, so that a cut may leave of each
+-- block what it may read as.
 pub record IsMember (m : Member) : Type 0 where
   pub checkpoint : IsCheckpoint m.sizes m.state.used m.state.saved
   pub flushed : m.state.pending ≡ m.state.current

@@ -214,8 +214,8 @@ module _ (p : Play) (n : ℕ) (first : List (List ℕ)) (k : IsCutOf p n first) 
             let f = k.way.flat in
             let back = comes_back last f.phase magic (cuts_end_well p n first last runs.0 k runs.1) in
             let attempts = reads (λ i j. Whole p.plan.sizes i j) last final boot.0 boot.1 boot.2 boot.3 in
-            let done = (boots_end p.plan.sizes f.used f.saved (record { valid = k.sizes; zeroth = back.used_0; plain = back.plain }) last final boot.0 boot.1 attempts.0 boot.2 (reruns_image p.plan.sizes first last runs.0 k.whole runs.1, back.holds) attempts.1 boot.3).0 in
-            fulfilled_back final magic done.1 done.0
+            let done = (boots_end p.plan.sizes f.used f.saved (record { valid = k.sizes; plain = back.plain }) last final boot.0 boot.1 attempts.0 boot.2 (reruns_image p.plan.sizes first last runs.0 k.whole runs.1, back.holds) attempts.1 boot.3).0 in
+            fulfilled_back final magic done.1 (λ b on used. done.0 b on (inr used))
       ]
 
 pub cuts_are_promised : CutsArePromised

@@ -96,7 +96,7 @@ module _ {D : Type 0} (stated : D → Option Geometry) (content : D → Option C
       held image crash = subst (λ x. Holds x k.way.flat.used k.way.flat.saved (contents_of image)) sizes (all image crash).holds
 
       ends_back : (answer : Restored) → FromHeld g content old (λ used saved. EndsBack g used saved content new answer) → EndsBack g k.way.flat.used k.way.flat.saved content new answer
-      ends_back answer from = let now = all c.now crash_now in from c told k.way.flat.used k.way.flat.saved now.used_0 now.plain held
+      ends_back answer from = let now = all c.now crash_now in from c told k.way.flat.used k.way.flat.saved now.plain held
 
     -- with no log there nothing changes
     same_now : IsPlain (contents_of first 0) → c.now ≡ first
@@ -106,7 +106,7 @@ module _ {D : Type 0} (stated : D → Option Geometry) (content : D → Option C
     fulfilled_when_back : HasMagic (contents_of first 0) → Tells content (IsBack g k.way.flat.used k.way.flat.saved) new → Tells content (λ d. IsFlushed d × IsFulfilled p n first k d.now) new
     fulfilled_when_back magic is_back =
         tells_map content (IsBack g k.way.flat.used k.way.flat.saved) (λ d. IsFlushed d × IsFulfilled p n first k d.now) new
-        (λ d is b. (b.flushed, fulfilled_back p n first k d.now magic b.plain (λ x below in_use. b.blocks x (subst (λ (y : Geometry). x < y.blocks) sizes below) in_use))) is_back
+        (λ d is b. (b.flushed, fulfilled_back p n first k d.now magic b.plain (λ x below in_use. b.blocks x (subst (λ (y : Geometry). x < y.blocks) sizes below) (inr in_use)))) is_back
 
     -- a restoration that ended well
     pub restoration_fulfils : (answer : Restored) → (IsPlain (contents_of c.now 0) → Tells content (Untouched answer c) new)

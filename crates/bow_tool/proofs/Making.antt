@@ -110,7 +110,7 @@ ended_by : (g : Geometry) (f : Flat) (image : List (List ℕ)) (answer : Restore
 ended_by g f image restored.Nothing some back head counts ended = head
 ended_by g f image (restored.Done entries marks) some back head counts ended = elim back.holds [
   | inl keeps ↦ (let told = counts keeps.log keeps.older keeps.sound in (keeps.log, keeps.older, keeps.sound, told.0, told.1))
-  | inr there ↦ absurd (back.plain (subst HasMagic (there 0 some back.used_0) head))
+  | inr there ↦ absurd (back.plain (subst HasMagic (there 0 some (inl refl)) head))
 ]
 ended_by g f image (restored.Stopped writes) some back head counts ended = absurd ended
 ended_by g f image (restored.BadChain fault) some back head counts ended = absurd ended
