@@ -58,7 +58,7 @@ pub record HasBuffers (size lent : ℕ) (buffers : List (Option (List ℕ))) : T
   pub many : length buffers ≡ 17
   pub each : (count : ℕ) → 1 ≤ count → count ≤ 16 → count ≢ lent → IsThere (count * size) (slice_get buffers count)
 
--- the buffers once that of a write is lent, and once it came back
+-- the buffers once that of a write is lent
 abbrev pub without_lent : Op → List (Option (List ℕ)) → List (Option (List ℕ))
 without_lent (Write e bytes) buffers = slice_set buffers e.count None
 without_lent (Read e bytes) buffers = buffers
@@ -67,6 +67,7 @@ without_lent Flush buffers = buffers
 without_lent Prepare buffers = buffers
 without_lent Commit buffers = buffers
 
+-- the buffers once it came back
 abbrev pub given_back : Op → List (Option (List ℕ)) → List (Option (List ℕ))
 given_back (Write e bytes) buffers = slice_set buffers e.count (Some bytes)
 given_back (Read e bytes) buffers = buffers

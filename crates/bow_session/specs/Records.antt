@@ -21,11 +21,12 @@ abbrev pub first_with : Option Hand → ℕ
 first_with None = 0
 first_with (Some hand) = hand.first
 
--- how many requests of a lane are answered, and the first block of the one that the device has
+-- how many requests of a lane are answered
 abbrev pub number_in : Option Seat → ℕ
 number_in None = 0
 number_in (Some seat) = length seat.answered.items
 
+-- the first block of the one that the device has
 abbrev pub first_in : Option Seat → ℕ
 first_in None = 0
 first_in (Some seat) = first_with seat.hand
