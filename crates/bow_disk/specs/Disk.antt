@@ -4,10 +4,11 @@ use Rattle.std.specs.List.{All}
 use Rattle.bow_units.specs.Blocks.{IsBlock}
 use Rattle.bow_units.specs.declared.sizes.Geometry.{Geometry}
 
--- an image is a list of blocks, and a block is a list of bytes
+-- a block is a list of bytes
 abbrev pub Block : Type 0
 Block = List ℕ
 
+-- an image is a list of blocks
 abbrev pub Image : Type 0
 Image = List (List ℕ)
 

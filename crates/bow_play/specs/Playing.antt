@@ -13,7 +13,7 @@ use Rattle.bow_history.specs.Schedule.{FollowsDraws}
 use Rattle.bow_history.specs.Sessions.{Turned}
 use Rattle.bow_session.specs.Runs.{IsRun, begun_over}
 use Rattle.bow_session.specs.Sessions.{Run, plan_in}
-use Rattle.bow_play.specs.Reading.{GaveScript, GaveNoScript}
+use Rattle.bow_play.specs.Reading.{Taken, GaveScript, GaveNoScript}
 use Rattle.bow_play.specs.declared.faults.PlayFault.{PlayFault}
 use Rattle.bow_play.specs.declared.faults.PlayFault.TheVariants.{BadScript, SourceFault, BadGeometry, DiskFault}
 use Rattle.bow_play.specs.declared.faults.PlayFault.TheVariants.{NeedsRestore, NoMemory}
@@ -50,8 +50,8 @@ fault_for opens.DiskFault = DiskFault
 fault_for opens.NoMemory = NoMemory
 
 -- the source gave a script
-abbrev pub GaveSome : Option (List ℕ) → Option (List ℕ) → Type 0
-GaveSome left rest = (script : List (List (List Line))) × GaveScript left rest script
+abbrev pub GaveSome : Taken → Type 0
+GaveSome t = (script : List (List (List Line))) × GaveScript t script
 
 -- Why no device was played over, by the disk before and after: its opening's cause. Want of memory has none, and may
 -- come after the opening.
@@ -66,13 +66,13 @@ DiskCause stated content moment faults old new DiskFault =
 DiskCause stated content moment faults old new NoMemory = Unit {0}
 DiskCause stated content moment faults old new fault = ⊥
 
--- Why a script is not played, by what the source has left and its count of faults before and after, and the disk: no
+-- Why a script is not played, by what was taken from the source, its count of faults before and after, and the disk: no
 -- script, and then the disk is the one that was given; or a script, and no device. Want of memory has no cause.
 abbrev pub PlayCause : {D : Type 0} → (D → Option Geometry) → (D → Option Content) → (D → ℕ) → (D → ℕ)
-    → Option (List ℕ) → Option (List ℕ) → ℕ → ℕ → D → D → PlayFault → Type 0
-PlayCause stated content moment faults left rest before now old new SourceFault = Rose before now × (new ≡ old)
-PlayCause stated content moment faults left rest before now old new (BadScript line) = GaveNoScript left rest line
+    → Taken → ℕ → ℕ → D → D → PlayFault → Type 0
+PlayCause stated content moment faults t before now old new SourceFault = Rose before now × (new ≡ old)
+PlayCause stated content moment faults t before now old new (BadScript line) = GaveNoScript t line
     × (new ≡ old)
-PlayCause stated content moment faults left rest before now old new NoMemory = Unit {0}
-PlayCause stated content moment faults left rest before now old new fault = GaveSome left rest
+PlayCause stated content moment faults t before now old new NoMemory = Unit {0}
+PlayCause stated content moment faults t before now old new fault = GaveSome t
     × DiskCause stated content moment faults old new fault

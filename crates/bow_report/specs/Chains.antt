@@ -24,7 +24,7 @@ abbrev pub magic_text : Magic → List ℕ
 magic_text LogMagic = codes "log"
 magic_text Restoring = codes "restoring"
 
--- the line of a log with so many entries, with its line feed
+-- the line of a log with this sequence and magic, by its current block and number of entries, with its line feed
 unfoldable pub generation_text : ℕ → Magic → ℕ → ℕ → List ℕ
 generation_text sequence magic sector0 entries = codes "generation " ++ decimal sequence ++ codes " magic "
     ++ magic_text magic ++ codes " sector0 " ++ decimal sector0 ++ codes " entries " ++ decimal entries ++ codes "\n"

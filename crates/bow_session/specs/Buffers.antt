@@ -67,7 +67,7 @@ without_lent Flush buffers = buffers
 without_lent Prepare buffers = buffers
 without_lent Commit buffers = buffers
 
--- the buffers once it came back
+-- the buffers once a write's buffer was handed back
 abbrev pub given_back : Op → List (Option (List ℕ)) → List (Option (List ℕ))
 given_back (Write e bytes) buffers = slice_set buffers e.count (Some bytes)
 given_back (Read e bytes) buffers = buffers

@@ -26,7 +26,7 @@ abbrev pub number_in : Option Seat → ℕ
 number_in None = 0
 number_in (Some seat) = length seat.answered.items
 
--- the first block of the one that the device has
+-- the first block of the request of a lane that the device has
 abbrev pub first_in : Option Seat → ℕ
 first_in None = 0
 first_in (Some seat) = first_with seat.hand

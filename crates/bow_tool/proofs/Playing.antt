@@ -1,33 +1,39 @@
 -- Where nothing stands in the way of a play, only want of memory refuses it.
-use Rattle.std.proofs.Common.{◌≡◌, inl, inr, ℕ, ◌+◌, ◌≤◌, List, ◌++◌, length, Option, None, Some, refl, ap, ◌∙◌, subst, arith, length-append, append-nil}
+use Rattle.std.proofs.Common.{◌≡◌, ◌⊎◌, inl, inr, ℕ, ◌+◌, ◌≤◌, List, ◌++◌, length, Option, None, Some, refl, ap, ◌∙◌, subst, arith, length-append, append-nil}
 use Rattle.bow_disk.specs.Disk.{Goes}
 use Rattle.bow_disk.specs.Disk.{Content}
 use Rattle.bow_core.specs.Openings.{BeginsMagic}
 use Rattle.bow_script.specs.Scripts.{IsScriptText}
 use Rattle.bow_script.proofs.Exact.{faultless}
-use Rattle.bow_play.specs.Reading.{GaveNoScript}
+use Rattle.std.specs.Io.KnownBytes.{Consumes, IsAtEnd}
+use Rattle.bow_script.specs.Faults.{IsCause}
+use Rattle.bow_script.specs.declared.faults.ScriptFault.TheVariants as scripts
+use Rattle.bow_play.specs.Reading.{Taken, GaveNoScript}
 use Rattle.bow_play.specs.declared.faults.PlayFault.{PlayFault}
 use Rattle.bow_play.specs.declared.faults.PlayFault.TheVariants as plays
 use Rattle.bow_tool.specs.declared.refusals.Refusal.{Refusal}
 use Rattle.bow_tool.specs.Refusals.{status_of}
-use Rattle.bow_tool.specs.Outside.{Call}
+use Rattle.bow_tool.specs.Outside.{Call, taken_in}
 use Rattle.bow_session.specs.Sessions.{Run}
 use Rattle.bow_tool.specs.Play.{PlayInOrder, RunNotCleared, RunRefused, TellsScript, WasNotPlayed, refusal_for}
 
 -- a source that tells a script gives no other text
-no_other : (left rest : Option (List ℕ)) (line : ℕ) → TellsScript left → GaveNoScript left rest line → ⊥
-no_other None rest line tells gave = tells
-no_other (Some xs) None line tells gave = gave.bytes
-no_other (Some xs) (Some ys) line tells gave =
+no_other : (left rest : Option (List ℕ)) (text : List ℕ) (line : ℕ) → TellsScript left → Consumes left rest text → IsAtEnd rest ⊎ (length text ≡ 4194305) → IsCause text (scripts.BadScript line) → ⊥
+no_other None rest text line tells bytes whole fault = tells
+no_other (Some xs) None text line tells bytes whole fault = bytes
+no_other (Some xs) (Some ys) text line tells bytes whole fault =
     let few : length xs ≤ 4194304 = tells.1.short in
-    let parts : xs ≡ gave.text ++ ys = gave.bytes in
-    let long : length xs ≡ length gave.text + length ys = ap length parts ∙ length-append gave.text ys in
-    elim gave.whole [
+    let parts : xs ≡ text ++ ys = bytes in
+    let long : length xs ≡ length text + length ys = ap length parts ∙ length-append text ys in
+    elim whole [
       | inl at_end ↦
-          let same : xs ≡ gave.text = parts ∙ ap (λ l. gave.text ++ l) at_end ∙ append-nil gave.text in
-          faultless gave.text tells.0 line (subst (λ text. IsScriptText text tells.0) same tells.1) gave.fault
+          let same : xs ≡ text = parts ∙ ap (λ l. text ++ l) at_end ∙ append-nil text in
+          faultless text tells.0 line (subst (λ l. IsScriptText l tells.0) same tells.1) fault
       | inr limit ↦ omega (arith, few, long, limit)
     ]
+
+whole_text : (t : Taken) (line : ℕ) (gave : GaveNoScript t line) → IsAtEnd t.rest ⊎ (length gave.text ≡ 4194305)
+whole_text t line gave = elim gave.whole [ inl ended ↦ inl ended.0 | inr limit ↦ inr limit ]
 
 -- a disk that told a plain block 0, and whose image was kept, begins with no magic
 plain_kept : (old new : Option Content) (k : Content) → old ≡ Some k → Goes (λ c d. d.now ≡ c.now) old new → BeginsMagic new → BeginsMagic (Some k)
@@ -43,7 +49,7 @@ plain_kept (Some c) (Some d) k told goes magic = subst BeginsMagic told (magic_i
 
 not_played : (c : Call) (fault : PlayFault) → PlayInOrder c → WasNotPlayed c fault → status_of (refusal_for fault) ≡ 11
 not_played c plays.SourceFault order none = absurd (order.source none.cause.0)
-not_played c (plays.BadScript line) order none = absurd (no_other (c.sources.left c.source) (c.sources.left c.source_after) line order.script none.cause.0)
+not_played c (plays.BadScript line) order none = let gave : GaveNoScript (taken_in c) line = none.cause.0 in absurd (no_other (taken_in c).left (taken_in c).rest gave.text line order.script gave.bytes.0 (whole_text (taken_in c) line gave) gave.fault)
 not_played c (plays.BadGeometry g) order none = absurd (none.cause.1.1 (order.sizes g none.cause.1.0))
 not_played c plays.DiskFault order none = absurd (order.disk none.cause.1.0)
 not_played c plays.NeedsRestore order none = absurd (order.plain (plain_kept (c.disks.content c.disk) (c.disks.content c.disk_after) order.content order.told none.kept.image none.cause.1.1))

@@ -48,13 +48,14 @@ pub record WasStarted {K : Type 0} (v : KeeperView K) (retries : ℕ) (old new :
 abbrev pub Said : {A F : Type 0} → (Result A F → Type 0) → (A → List ℕ) → List ℕ → Type 0
 Said {A} Did line text = (answer : A) × Did (Ok answer) × (text ≡ line answer)
 
--- Why it was refused, by the keeper's count of faults before and after. Where the line finds no memory, it was done.
+-- why it was refused, by the keeper's count of faults before and after; where the line finds no memory, it was done
 abbrev pub AttemptCause : {A : Type 0} → (Result A AttemptFault → Type 0) → ℕ → ℕ → Refusal → Type 0
 AttemptCause Did faults now KeeperFault = Did (Err fault.KeeperFault) × Rose faults now
 AttemptCause Did faults now BadAttempts = Did (Err fault.BadAttempts)
 AttemptCause {A} Did faults now NoMemory = (answer : A) × Did (Ok answer)
 AttemptCause Did faults now refusal = ⊥
 
+-- so of a start
 abbrev pub StartCause : (Result ℕ StartFault → Type 0) → ℕ → ℕ → Refusal → Type 0
 StartCause Did faults now KeeperFault = Did (Err starts.KeeperFault) × Rose faults now
 StartCause Did faults now NoMemory = (attempts : ℕ) × Did (Ok attempts)
@@ -64,29 +65,32 @@ StartCause Did faults now refusal = ⊥
 abbrev pub AsksKeeperAlone : Call → Type 0
 AsksKeeperAlone c = SourceLeft c × DiskLeft c
 
--- a step of the attempts, as a call of the program
+-- a step of the attempts was made, as a call of the program, and the text is its line
 abbrev pub StepText : (Option ℕ → Option ℕ) → Call → List ℕ → Type 0
 StepText step c text = AsksKeeperAlone c × Said (RanStep c.keepers step c.keeper c.keeper_after) attempts_line text
 
+-- it was refused, for this cause
 abbrev pub StepCause : (Option ℕ → Option ℕ) → Call → Refusal → Type 0
 StepCause step c refusal = AsksKeeperAlone c × AttemptCause (RanStep c.keepers step c.keeper c.keeper_after)
     (c.keepers.faults c.keeper) (c.keepers.faults c.keeper_after) refusal
 
--- a question on the attempts
+-- a question on the attempts was answered, and the text is its line
 abbrev pub QuestionText : (Option ℕ → Bool) → Call → List ℕ → Type 0
 QuestionText question c text = AsksKeeperAlone c
     × Said (WasAsked c.keepers question c.keeper c.keeper_after) answer_line text
 
+-- it was refused, for this cause
 abbrev pub QuestionCause : (Option ℕ → Bool) → Call → Refusal → Type 0
 QuestionCause question c refusal = AsksKeeperAlone c
     × AttemptCause (WasAsked c.keepers question c.keeper c.keeper_after) (c.keepers.faults c.keeper)
     (c.keepers.faults c.keeper_after) refusal
 
--- a start
+-- attempts were started, and the text is their line
 abbrev pub StartText : ℕ → Call → List ℕ → Type 0
 StartText retries c text = AsksKeeperAlone c
     × Said (WasStarted c.keepers retries c.keeper c.keeper_after) (λ n. attempts_line (Some n)) text
 
+-- that was refused, for this cause
 abbrev pub StartRefusal : ℕ → Call → Refusal → Type 0
 StartRefusal retries c refusal = AsksKeeperAlone c
     × StartCause (WasStarted c.keepers retries c.keeper c.keeper_after) (c.keepers.faults c.keeper)

@@ -64,6 +64,7 @@ abbrev pub IsBootRefusal : Result Booted BootFault → Refusal → Type 0
 IsBootRefusal (Ok booted) refusal = refusal ≡ NoMemory
 IsBootRefusal (Err fault) refusal = refusal ≡ refusal_of_boot fault
 
+-- so an answer that ends well is told
 abbrev pub IsBootedLine : Result Booted BootFault → List ℕ → Type 0
 IsBootedLine (Ok booted) text = text ≡ booted_line booted
 IsBootedLine (Err fault) text = ⊥
@@ -80,10 +81,11 @@ BootRefused v w old new from to refusal =
     (SizesCause (v.stated new) (v.faults old) (v.faults new) refusal × OnlySizes v old new × (to ≡ from))
     ⊎ BootWith v w old new from to (λ r. IsBootRefusal r refusal)
 
--- a boot, as a call of the program
+-- a boot was made, as a call of the program, and the text is its line
 abbrev pub BootText : Call → List ℕ → Type 0
 BootText c text = SourceLeft c
     × BootWith c.disks c.keepers c.disk c.disk_after c.keeper c.keeper_after (λ r. IsBootedLine r text)
 
+-- a boot was refused, for this cause
 abbrev pub BootCause : Call → Refusal → Type 0
 BootCause c refusal = SourceLeft c × BootRefused c.disks c.keepers c.disk c.disk_after c.keeper c.keeper_after refusal

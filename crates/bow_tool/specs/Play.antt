@@ -30,7 +30,7 @@ use Rattle.vold_meta.specs.Keeper.{Goes, TimeGoes}
 use Rattle.bow_tool.specs.declared.refusals.Refusal.{Refusal}
 use Rattle.bow_tool.specs.declared.refusals.Refusal.TheVariants.{BadScript, SourceFault, DiskFault, KeeperFault, NeedsRestore, NoMemory, BadGeometry}
 use Rattle.bow_tool.specs.Refusals.{refusal_line}
-use Rattle.bow_tool.specs.Outside.{Call, KeeperView, KeeperLeft}
+use Rattle.bow_tool.specs.Outside.{Call, KeeperView, KeeperLeft, taken_in}
 use Rattle.bow_tool.specs.Sizes.{HasSizes}
 
 -- The script that the source gave was run to its end in this session, over a device that was opened on the disk. Each
@@ -40,7 +40,7 @@ use Rattle.bow_tool.specs.Sizes.{HasSizes}
 -- only where there is none. Whatever a cut leaves is promised: over any number of restorations and boots after it, each
 -- cut anywhere, the first that ends well has the checkpoint back, or what was flushed, by where the cut came.
 pub record WasRun (c : Call) (s : Run c.Disk) : Type 0 where
-  pub given : GaveScript (c.sources.left c.source) (c.sources.left c.source_after) s.script
+  pub given : GaveScript (taken_in c) s.script
   pub disk : c.disk_after ≡ s.core.disk
   pub sizes : HasSizes c.disks s.core.disk s.core.geometry
   pub over : IsOver s
@@ -85,6 +85,7 @@ Clears v plan journal old new true = (HasCommitted plan journal × IsCleared v o
     ⊎ ((HasCommitted plan journal → ⊥) × (new ≡ old))
 Clears v plan journal old new false = HasCommitted plan journal × IsNotCleared v old new
 
+-- so after this session, in a call of the program
 abbrev pub ClearsAfter : (c : Call) → Run c.Disk → Bool → Type 0
 ClearsAfter c s cleared = Clears c.keepers (plan_in s) s.journal c.keeper c.keeper_after cleared
 
@@ -110,9 +111,8 @@ refusal_for plays.NoMemory = NoMemory
 -- most, and a cut leaves nothing that it might not have left before
 pub record WasNotPlayed (c : Call) (fault : PlayFault) : Type 0 where
   pub keeper : KeeperLeft c
-  pub cause : PlayCause c.disks.stated c.disks.content c.disks.moment c.disks.faults (c.sources.left c.source)
-      (c.sources.left c.source_after) (c.sources.faults c.source) (c.sources.faults c.source_after) c.disk c.disk_after
-      fault
+  pub cause : PlayCause c.disks.stated c.disks.content c.disks.moment c.disks.faults (taken_in c)
+      (c.sources.faults c.source) (c.sources.faults c.source_after) c.disk c.disk_after fault
   pub kept : KeepsImage c.disks.stated c.disks.content c.disks.moment c.disks.left_since c.disks.faults c.disk
       c.disk_after
   pub clock : (k : Content) → c.disks.content c.disk ≡ Some k

@@ -82,11 +82,13 @@ pub record IsForwarded {D : Type 0} (v : DiskView D) (g : Geometry) (old new : D
   pub left : (c : Content) → v.content old ≡ Some c → LeftAtForward g v.content new c answer
   pub cuts : (c : Content) → v.content old ≡ Some c → AddsCuts v.moment v.left_since (IsForwardCut g c.now) old new
 
+-- so an answer that ends well is told
 abbrev pub IsForwardedLine : Forwarded → List ℕ → Type 0
 IsForwardedLine forwarded.Nothing text = text ≡ codes "nothing to forward\n"
 IsForwardedLine forwarded.Done text = text ≡ codes "forwarded\n"
 IsForwardedLine answer text = ⊥
 
+-- so an answer is refused; the line of one that ends well may find no memory
 abbrev pub IsForwardRefusal : Forwarded → Refusal → Type 0
 IsForwardRefusal forwarded.Nothing refusal = refusal ≡ NoMemory
 IsForwardRefusal forwarded.Done refusal = refusal ≡ NoMemory
@@ -110,20 +112,22 @@ ImageCause v old new Did IsRefusal refusal =
 abbrev pub AsksDiskAlone : Call → Type 0
 AsksDiskAlone c = SourceLeft c × KeeperLeft c
 
--- a restoration, as a call of the program
+-- a restoration was made, as a call of the program, and the text is its line
 abbrev pub RestoreText : Option ℕ → Call → List ℕ → Type 0
 RestoreText limit c text = AsksDiskAlone c × WithSizes c.disks c.disk_after
     (λ g answer. IsRestored c.disks g limit c.disk c.disk_after answer) (λ answer. IsRestoredLine answer text)
 
+-- a restoration was refused, for this cause
 abbrev pub RestoreCause : Option ℕ → Call → Refusal → Type 0
 RestoreCause limit c refusal = AsksDiskAlone c × ImageCause c.disks c.disk c.disk_after
     (λ g answer. IsRestored c.disks g limit c.disk c.disk_after answer) IsRestoreRefusal refusal
 
--- giving the checkpoint up, as a call of the program
+-- the checkpoint was given up, as a call of the program, and the text is its line
 abbrev pub ForwardText : Call → List ℕ → Type 0
 ForwardText c text = AsksDiskAlone c × WithSizes c.disks c.disk_after
     (λ g answer. IsForwarded c.disks g c.disk c.disk_after answer) (λ answer. IsForwardedLine answer text)
 
+-- giving it up was refused, for this cause
 abbrev pub ForwardCause : Call → Refusal → Type 0
 ForwardCause c refusal = AsksDiskAlone c × ImageCause c.disks c.disk c.disk_after
     (λ g answer. IsForwarded c.disks g c.disk c.disk_after answer) IsForwardRefusal refusal

@@ -40,7 +40,7 @@ pub(crate) fn play_script<D: Disk, K: Keeper, S: Source>(
     keeper: K,
     source: &mut S,
 ) -> (Outcome, D, K)
-    ensures { let call = call_of (source_view S.left S.faults)
+    ensures { let call = call_of (source_view S.left S.gave S.ended S.faults)
         (disk_view D.stated D.content D.moment D.left_since D.faults)
         (keeper_view K.kept K.moment K.left_since K.faults) source.old source.new disk result.1 keeper result.2
         in IsOutcome (Play number) call result.0 }
@@ -69,7 +69,7 @@ pub(crate) fn run_script<
     gate: &G,
 ) -> (Outcome, D, K)
     requires servers { (1 ≤ servers) × (servers ≤ 8) }
-    ensures { let call = call_of (source_view S.left S.faults)
+    ensures { let call = call_of (source_view S.left S.gave S.ended S.faults)
         (disk_view D.stated D.content D.moment D.left_since D.faults)
         (keeper_view K.kept K.moment K.left_since K.faults) source.old source.new disk result.1 keeper result.2
         in IsOutcome (Run servers) call result.0 }

@@ -60,7 +60,7 @@ pub fn tool<
     sink: &mut W,
     gate: &G,
 ) -> Ended<D, K>
-    ensures { let call = call_of (source_view S.left S.faults)
+    ensures { let call = call_of (source_view S.left S.gave S.ended S.faults)
         (disk_view D.stated D.content D.moment D.left_since D.faults)
         (keeper_view K.kept K.moment K.left_since K.faults) source.old source.new disk result.disk keeper result.keeper
         in TellsWords words.now call (W.contents sink.old) (W.contents sink.new) (W.faults sink.old)
@@ -131,7 +131,7 @@ pub fn manage<D: Disk, K: Keeper, S: Source, W: Sink>(
 ) -> Ended<D, K>
     requires range { IsInRange command }
     requires managed { IsManaged command }
-    ensures { let call = call_of (source_view S.left S.faults)
+    ensures { let call = call_of (source_view S.left S.gave S.ended S.faults)
         (disk_view D.stated D.content D.moment D.left_since D.faults)
         (keeper_view K.kept K.moment K.left_since K.faults) source.old source.new disk result.disk keeper result.keeper
         in TellsCommand command call (W.contents sink.old) (W.contents sink.new) (W.faults sink.old)
@@ -159,7 +159,7 @@ fn serve<H: Threads + Wait + Sync, D: Disk + Send, K: Keeper, S: Source, W: Sink
     gate: &G,
 ) -> Ended<D, K>
     requires { IsInRange command }
-    ensures { let call = call_of (source_view S.left S.faults)
+    ensures { let call = call_of (source_view S.left S.gave S.ended S.faults)
         (disk_view D.stated D.content D.moment D.left_since D.faults)
         (keeper_view K.kept K.moment K.left_since K.faults) source.old source.new disk result.disk keeper result.keeper
         in TellsCommand command call (W.contents sink.old) (W.contents sink.new) (W.faults sink.old)
@@ -190,7 +190,7 @@ fn run_lanes<
     gate: &G,
 ) -> Ended<D, K>
     requires servers { (1 ≤ servers) × (servers ≤ 8) }
-    ensures { let call = call_of (source_view S.left S.faults)
+    ensures { let call = call_of (source_view S.left S.gave S.ended S.faults)
         (disk_view D.stated D.content D.moment D.left_since D.faults)
         (keeper_view K.kept K.moment K.left_since K.faults) source.old source.new disk result.disk keeper result.keeper
         in TellsCommand (Run servers) call (W.contents sink.old) (W.contents sink.new) (W.faults sink.old)
@@ -257,7 +257,7 @@ fn obey<D: Disk, K: Keeper, S: Source>(
 ) -> (Outcome, D, K)
     requires range { IsInRange command }
     requires managed { IsManaged command }
-    ensures { let call = call_of (source_view S.left S.faults)
+    ensures { let call = call_of (source_view S.left S.gave S.ended S.faults)
         (disk_view D.stated D.content D.moment D.left_since D.faults)
         (keeper_view K.kept K.moment K.left_since K.faults) source.old source.new disk result.1 keeper result.2
         in IsOutcome command call result.0 }

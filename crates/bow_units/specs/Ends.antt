@@ -1,5 +1,7 @@
 -- What a source and a sink in memory hold.
-use Rattle.std.specs.Prelude.{ℕ, ◌+◌, ◌-◌, ◌^◌, min, Bool, nat_eq, List}
+use Rattle.std.specs.Prelude.{ℕ, ◌+◌, ◌-◌, ◌^◌, min, Bool, nat_eq, List, [], ◌++◌, Option}
+use Rattle.std.specs.Io.KnownBytes.{Consumes}
+use Rattle.std.proofs.KnownBytes.{Consumes-nil, Consumes-trans}
 use Rattle.std.specs.List.{list_any}
 
 -- the bytes left, how many calls were made, how many failed, and the numbers of the calls that fail
@@ -24,3 +26,12 @@ next_count n = min (n + 1) (2 ^ 64 - 1)
 -- whether the call of this number is listed
 abbrev pub is_listed : List ℕ → ℕ → Bool
 is_listed failing call = list_any (λ n. nat_eq n call) failing
+
+-- where nothing is read nothing is consumed
+pub consumes_none : (known : Option (List ℕ)) → Consumes known known []
+consumes_none known = Consumes-nil known
+
+-- what is consumed first, and then what is consumed after that
+pub consumes_more : (first mid last : Option (List ℕ)) (bytes more : List ℕ)
+    → Consumes first mid bytes → Consumes mid last more → Consumes first last (bytes ++ more)
+consumes_more first mid last bytes more one other = Consumes-trans first mid last bytes more one other

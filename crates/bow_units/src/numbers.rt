@@ -1,5 +1,5 @@
 // Decimal numbers.
-ghost use Rattle.std.specs.Prelude.{◌≡◌, ◌<◌, ◌≤◌, ◌^◌, ℕ, length, true, IfSome, IfNone};
+ghost use Rattle.std.specs.Prelude.{◌≡◌, ◌<◌, ◌≤◌, ◌^◌, ℕ, ◌↔◌, length, get_or, true, IsTrue, IfSome, IfNone};
 ghost use Rattle.std.specs.Fmt.{decimal};
 ghost use Rattle.std.specs.List.{list_all};
 ghost use Rattle.std.specs.Char.{is_ascii_digit};
@@ -17,10 +17,8 @@ pub fn read_number(word: &[u8]) -> Option<u64>
     if word.len() > 20 {
         return None;
     }
-    if word.len() > 1 {
-        if word[0] == b'0' {
-            return None;
-        }
+    if is_padded(word) {
+        return None;
     }
     if !all_digits(word) {
         return None;
@@ -31,6 +29,13 @@ pub fn read_number(word: &[u8]) -> Option<u64>
     } else {
         None
     }
+}
+
+// A needless zero stands in front.
+fn is_padded(word: &[u8]) -> bool
+    ensures { IsTrue result ↔ ((1 < length word.now) × (get_or word.now 0 0 ≡ 48)) }
+{
+    word.len() > 1 && word[0] == b'0'
 }
 
 fn all_digits(word: &[u8]) -> bool

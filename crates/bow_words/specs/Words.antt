@@ -38,6 +38,7 @@ limit_app = plain_app (record (new_rule (codes "limit")) { long = Some (codes "l
 abbrev pub retry_app : App
 retry_app = plain_app (record (new_rule (codes "retry")) { long = Some (codes "retry"); action = Some SetTrue } ∷ [])
 
+-- the bytes of each word
 abbrev pub texts_of : List (String Global) → List Text
 texts_of = map string_bytes
 
