@@ -212,7 +212,7 @@ fn backup_written(alloc: Global) -> Result<Vec<u8>, Fail> {
 }
 
 // Block 1 was written and then given back, and took the backup of block 2.
-fn block_given_back(alloc: Global) -> Result<Vec<u8>, Fail> {
+pub(crate) fn block_given_back(alloc: Global) -> Result<Vec<u8>, Fail> {
     let changed = [(13, 0, 0), (14, 0, 0), (15, 1, 0), (1, 2, 0), (2, 2, 5)];
     image_with(alloc, 13, &changed, &[(0, 14, 14), (1, 15, 15), (2, 1, 1)])
 }

@@ -1,5 +1,5 @@
 -- Restorations that are cut, one after the other.
-use Rattle.std.proofs.Common.{◌≡◌, ℕ, ◌≤◌, List, [], ◌∷◌, ◌++◌, map, Option, Some, Result, Ok, Err, IfOk, Vec, refl, sym, ap, ◌∙◌, subst, arith}
+use Rattle.std.proofs.Common.{◌≡◌, ℕ, List, [], ◌∷◌, ◌++◌, map, Some, Result, Ok, Err, IfOk, Vec, refl, sym, ap, ◌∙◌, subst, arith}
 use Rattle.std.specs.declared.alloc.Global.{Global}
 use Rattle.bow_units.specs.declared.sizes.Geometry.{Geometry}
 use Rattle.bow_disk.specs.Bytes.{image_of}
@@ -7,7 +7,6 @@ use Rattle.bow_disk.specs.Disk.{Content, IsCrash, IsImage, IsSettledOn}
 use Rattle.bow_disk.specs.Memory.{LeftSince, Memory, State, content, fresh}
 use Rattle.bow_disk.specs.MemoryLaws.{counts_law, cuts_law}
 use Rattle.bow_restore.specs.Rewinds.{PassesOn, Reruns}
-use Rattle.bow_promise.proofs.Recovered.{reruns_more}
 use Rattle.bow_tool.specs.Drills.{IsRerunFrom}
 
 some_same : (a b : Geometry) → Some a ≡ Some b → a ≡ b
@@ -46,6 +45,10 @@ module _ (g h : Geometry) (room : ℕ) (old new : Memory) (image : List (List �
 -- no restoration yet
 pub rerun_none : (g h : Geometry) (cs : List (List (List ℕ))) (bytes : List ℕ) → h ≡ g → IsCrash cs (image_of h bytes) → IsRerunFrom g cs (image_of g bytes)
 rerun_none g h cs bytes same crash = record { first = image_of g bytes; crash = subst (λ x. IsCrash cs (image_of x bytes)) same crash; between = []; reruns = refl }
+
+reruns_more : (g : Geometry) (first last cut : List (List ℕ)) (between : List (List (List ℕ))) → Reruns g first between last → PassesOn g last cut → IsImage g.block_size g.blocks cut → Reruns g first (between ++ cut ∷ []) cut
+reruns_more g first last cut [] runs on image = (subst (λ (i : List (List ℕ)). PassesOn g i cut) runs on, image, refl)
+reruns_more g first last cut (next ∷ more) runs on image = (runs.0, runs.1, reruns_more g next last cut more runs.2 on image)
 
 -- and one more
 pub rerun_more : (g : Geometry) (cs : List (List (List ℕ))) (last cut : List (List ℕ)) → IsRerunFrom g cs last → PassesOn g last cut → IsImage g.block_size g.blocks cut → IsRerunFrom g cs cut

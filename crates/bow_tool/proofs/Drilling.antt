@@ -12,7 +12,6 @@ use Rattle.bow_history.specs.Histories.{session_after}
 use Rattle.bow_history.specs.Journal.{Plan}
 use Rattle.bow_history.specs.Schedule.{FollowsDraws, drawn}
 use Rattle.bow_history.specs.Sessions.{Session, Turned, after_turn}
-use Rattle.bow_session.specs.Leads.{WasLoaded}
 use Rattle.bow_session.specs.Runs.{begun_over}
 use Rattle.bow_session.specs.Sessions.{IsOver, Run, lane_at, plan_in, state_in}
 use Rattle.bow_session.specs.Turns.{IsOneTurn}

@@ -1,5 +1,5 @@
 -- The drill: a failed update on a disk of its own, cut and restored, and the five lines that tell of it.
-use Rattle.std.specs.Prelude.{◌≡◌, ◌⊎◌, ◌==◌, ◌&&◌, ℕ, zero, suc, ◌+◌, ◌*◌, ◌<◌, ◌≤◌, nat_lt, not, Bool, true, false, List, [], ◌∷◌, ◌++◌, length, count_by, codes, take, drop, Option, Some}
+use Rattle.std.specs.Prelude.{◌≡◌, ◌⊎◌, ◌==◌, ◌&&◌, ℕ, zero, suc, ◌*◌, ◌<◌, ◌≤◌, nat_lt, not, Bool, true, false, List, [], ◌∷◌, ◌++◌, length, count_by, codes, take, drop, Some}
 use Rattle.std.specs.Fmt.{decimal}
 use Rattle.bow_units.specs.declared.sizes.Geometry.{Geometry}
 use Rattle.bow_units.specs.declared.statuses.Status.{Status}
@@ -7,7 +7,7 @@ use Rattle.bow_units.specs.declared.requests.Outcome.TheVariants as outcomes
 use Rattle.bow_units.specs.declared.requests.Phase.TheVariants.{Checkpoint}
 use Rattle.bow_units.specs.Pattern.{pattern}
 use Rattle.bow_disk.specs.Bytes.{image_of}
-use Rattle.bow_disk.specs.Disk.{Content, IsCrash}
+use Rattle.bow_disk.specs.Disk.{IsCrash}
 use Rattle.bow_disk.specs.Memory.{Memory, LeftSince, content, fresh}
 use Rattle.bow_log.specs.Generations.{Generation}
 use Rattle.bow_chain.specs.Contents.{contents_of}
