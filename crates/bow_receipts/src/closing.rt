@@ -17,6 +17,7 @@ use bow_tags::LaneSeat;
 
 /// What a desk leaves: the device, in which no request waits, the journal of all that was done, and the calls, in the
 /// order of their answers.
+#[derive(Drop)]
 pub struct Closed<D: Disk, R: Ranges> {
     pub core: Core<D, R>,
     pub journal: Vec<Item>,

@@ -24,6 +24,7 @@ use std::sync::{Mutex, Wait};
 use std::thread;
 
 /// A device that its callers call, each with its pass, from threads of their own.
+#[derive(Drop)]
 pub struct Desk<J: Naming<D>, D: Disk, R: Ranges> {
     pub(crate) alloc: Global,
     pub(crate) tags: Tags<Ask, Answer>,

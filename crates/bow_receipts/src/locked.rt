@@ -13,6 +13,7 @@ use std::marker::{Model, PhantomData};
 
 // The device with what its callers have in hand and what was done, and the number of steps made. It keeps that this is
 // the history of the callers of the desk that J names.
+#[derive(Drop)]
 pub(crate) struct Locked<J: Naming<D>, D: Disk, R: Ranges> {
     service: Service<D, R>,
     steps: u64,

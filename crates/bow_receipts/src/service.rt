@@ -17,6 +17,7 @@ use bow_units::{Op, Outcome, Payload};
 
 // The device, the one seat that serves its callers, what each of them has in hand, what was done, and the calls that
 // are answered.
+#[derive(Drop)]
 pub(crate) struct Service<D: Disk, R: Ranges> {
     pub(crate) core: Core<D, R>,
     pub(crate) server: ServerSeat<Ask, Answer>,
