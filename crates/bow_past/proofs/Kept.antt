@@ -3,7 +3,6 @@ use mathlib.Core.Path.{fun_ext}
 use Rattle.std.proofs.lemmas.Bool.{cases_eq}
 use Rattle.std.proofs.Common.{◌≢◌, inl, inr, replicate, take, subst, ℕ, zero, suc, ◌≡◌, ◌<◌, ◌≤◌, List, [], ◌∷◌, ◌++◌, length, map, Option, Some, None, Result, Ok, Err, OnOk, OnErr, arith, refl, sym, ap, ◌∙◌, Box}
 use Rattle.std.specs.Prelude.{slice_get, slice_index_or, slice_set}
-
 use Rattle.std.specs.List.{AllByRecursion as Each}
 use Rattle.std.specs.declared.alloc.Global.{Global}
 use Rattle.bow_log.specs.Spelling.{Fields}

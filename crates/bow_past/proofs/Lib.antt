@@ -5,3 +5,4 @@ pub mod Reached
 pub mod Reading
 pub mod Stepping
 pub mod Theorem
+pub mod Turning

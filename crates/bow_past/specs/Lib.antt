@@ -3,3 +3,4 @@ pub mod Inside
 pub mod Reach
 pub mod Readings
 pub mod Steps
+pub mod Turns

@@ -10,5 +10,5 @@ mod readers;
 mod steps;
 
 pub use ended::{Ended, PastStep};
-pub use laws::past_law;
+pub use laws::{agreement_law, past_law};
 pub use readers::Past;

@@ -63,6 +63,7 @@ impl Past {
           kept = [];
           ended = [];
         }) }
+        ensures agrees { IfOk result (λ p. Agrees D.content p session.now.core) }
     {
         let geometry = session.geometry();
         let size = geometry.block_size as usize;

@@ -23,7 +23,10 @@ pub returns-clause-grown : goal.returns-clause-grown
 returns-clause-grown c =
     let i = c.self.inside in
     on_ok c.make_places.result
-    (λ k. (k.0, ap (λ l. record { geometry = i.geometry; extent = i.extent; kept = map unboxed l; ended = i.ended.items }) k.1
-    ∙ ap (λ (l : List (Option Fields)). record { geometry = i.geometry; extent = i.extent; kept = l; ended = i.ended.items }) (map_grown i.logs.items k.0)
-    ∙ ap (λ (r : Reading). record r { kept = r.kept ++ replicate k.0 None }) c.self.view_is))
+    (λ k. (
+      k.0,
+      ap (λ l. record { geometry = i.geometry; extent = i.extent; kept = map unboxed l; ended = i.ended.items }) k.1
+          ∙ ap (λ (l : List (Option Fields)). record { geometry = i.geometry; extent = i.extent; kept = l; ended = i.ended.items }) (map_grown i.logs.items k.0)
+          ∙ ap (λ (r : Reading). record r { kept = r.kept ++ replicate k.0 None }) c.self.view_is,
+    ))
     c.make_places.ensures.grown
