@@ -4,3 +4,7 @@ pub mod Agreeing
 pub mod Devices
 pub mod Stages
 pub mod Booting
+pub mod Commits
+pub mod Loops
+pub mod Decisions
+pub mod InTheEnd

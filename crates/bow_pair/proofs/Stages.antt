@@ -11,12 +11,12 @@ use Rattle.bow_pair.specs.declared.boots.PairBootFault.{PairBootFault}
 pub some_is : {X : Type 0} (x y : X) → Some x ≡ Some y → x ≡ y
 some_is x y e = cc e
 
-put_here : {X : Type 0} (xs : List X) (i : ℕ) (w : X) → i < length xs → slice_get (set xs i w) i ≡ Some w
+pub put_here : {X : Type 0} (xs : List X) (i : ℕ) (w : X) → i < length xs → slice_get (set xs i w) i ≡ Some w
 put_here [] i w h = absurd (omega arith)
 put_here (x ∷ xs) zero w h = refl
 put_here (x ∷ xs) (suc i) w h = put_here xs i w (omega arith)
 
-put_else : {X : Type 0} (xs : List X) (i j : ℕ) (w : X) → j ≢ i → slice_get (set xs i w) j ≡ slice_get xs j
+pub put_else : {X : Type 0} (xs : List X) (i j : ℕ) (w : X) → j ≢ i → slice_get (set xs i w) j ≡ slice_get xs j
 put_else [] i j w h = refl
 put_else (x ∷ xs) zero zero w h = absurd (h refl)
 put_else (x ∷ xs) zero (suc j) w h = refl

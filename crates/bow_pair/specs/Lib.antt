@@ -4,4 +4,7 @@ pub mod BootLaws
 pub mod Told
 pub mod Settling
 pub mod Ending
+pub mod Committing
+pub mod Deciding
+pub mod Laws
 pub mod Boot

@@ -3,8 +3,11 @@
 #![tactic(auto)]
 
 mod boots;
+mod committing;
+mod deciding;
 mod laws;
 mod settling;
 
 pub use boots::{PairBootFault, PairBooted, pair_boot};
-pub use laws::pair_boots_law;
+pub use deciding::{Decided, decide};
+pub use laws::{pair_boots_law, pair_law};
