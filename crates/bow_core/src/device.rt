@@ -283,9 +283,9 @@ impl<D: Disk, R: Ranges> Core<D, R> {
     /// block is free for the worker's head, or no two for a prepare. It is refused exactly where it fails a test at its
     /// own turn, or is a command that has no place in this phase. The step leads from each flat state for which the
     /// device stood to one for which it stands, by events that may be, and what a cut leaves meanwhile was left before
-    /// or stands for it. Where a call of the step failed, a fault is told. From a flush in `Checkpoint` that is answered
-    /// done, before which no call has failed, to the end of a commit, with no steps but those of the commands between,
-    /// each crash image may be given up forward, also where the last call failed.
+    /// or stands for it. Where a call of the step failed, a fault is told. From a flush in `Checkpoint` that is
+    /// answered done, before which no call has failed, to the end of a commit, with no steps but those of the commands
+    /// between, each crash image may be given up forward, also where the last call failed.
     pub fn step(&mut self, turn: Turn) -> Step
         ensures step { IsStep D.stated D.content D.moment D.left_since D.faults self.old turn result self.new }
         ensures idle { (told_of result ≡ Idle) ↔ (is_ready self.old.geometry self.old.memory (turn_of turn) ≡ false) }

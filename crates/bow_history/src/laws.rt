@@ -71,8 +71,8 @@ pub fn cuts_law()
     ensures ahead { CutsAreAhead }
 {}
 
-/// A run whose journal has a prepare's Done after which no write was answered, and at the end of which no request waits,
-/// leaves a checkpoint, if it is in one, in which nothing was touched: so another session may begin there.
+/// A run whose journal has a prepare's Done after which no write was answered, and at the end of which no request
+/// waits, leaves a checkpoint, if it is in one, in which nothing was touched: so another session may begin there.
 pub fn prepared_law()
     ensures { PreparedIsUntouched }
 {}

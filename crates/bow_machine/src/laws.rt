@@ -109,8 +109,8 @@ pub fn live_law()
 /// holds is put into block 0, it stands as after a commit. So a checkpoint can be given up from the image alone. It is
 /// so for each flat state for which the device stands and whatever a cut leaves is ahead. Once all was flushed, as by
 /// the first act of a commit, whatever a cut leaves stands for the state flushed and is ahead of it. From a flush that
-/// was done in Checkpoint to the end of a commit, with no turns but those of the commands between, whatever a cut leaves
-/// can be given up forward, even where the last call failed.
+/// was done in Checkpoint to the end of a commit, with no turns but those of the commands between, whatever a cut
+/// leaves can be given up forward, even where the last call failed.
 pub fn ahead_law()
     ensures opening { OpeningIsLed }
     ensures admit { AdmitIsLed }

@@ -93,7 +93,8 @@ abbrev pub TellsNoFault : {D : Type 0} → Run D → Type 0
 TellsNoFault v = sum_by faults_in v.journal ≡ 0
 
 -- Where a session leads that began at this state over a device that was led for it, and in whose journal no fault is
--- told: so that what cuts leave is ahead, too; and where no request waits, the device is led for the state of the place.
+-- told: so that what cuts leave is ahead, too; and where no request waits, the device is led for the state of the
+-- place.
 pub record LeadsAhead {D : Type 0} (content : D → Option Content) (moment : D → ℕ) (left : D → ℕ → List (List ℕ)
     → Type 0) (first : View D) (f : Flat) (v : Run D) : Type 0 where
   pub leads : LeadsFrom content moment left (StandsAheadToo v.core.geometry) first f v
