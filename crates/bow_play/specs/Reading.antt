@@ -20,16 +20,16 @@ pub record Taken : Type 1 where
   pub ended : Type 0
 
 -- so by the meanings of a source, before the call and after it
-abbrev pub taken : {S : Type 0} → (S → Option (List ℕ)) → (S → S → List ℕ → Type 0) → (S → Type 0) → S → S → Taken
-taken left gave ended old new = record { left = left old; rest = left new; gave = gave old new; ended = ended new }
+abbrev pub taken_from : {S : Type 0} → (S → Option (List ℕ)) → (S → S → List ℕ → Type 0) → (S → Type 0) → S → S → Taken
+taken_from left gave ended old new = record { left = left old; rest = left new; gave = gave old new; ended = ended new }
 
 -- these bytes were taken: the source gave them, and where it tells what it has left it began with them
 abbrev pub WasTaken : Taken → List ℕ → Type 0
 WasTaken t text = Consumes t.left t.rest text × t.gave text
 
 -- the source has ended, and where it tells what it has left that is nothing
-abbrev pub HasEnded : Taken → Type 0
-HasEnded t = IsAtEnd t.rest × t.ended
+abbrev pub IsReadOut : Taken → Type 0
+IsReadOut t = IsAtEnd t.rest × t.ended
 
 -- Why the bytes of a source were not all read: by what was taken, and by its counts of faults.
 abbrev pub ReadCause : {T : Type 0} → Taken → ℕ → ℕ → Result T ReadFault → Type 0
@@ -42,7 +42,7 @@ ReadCause t before now (Err reads.NoMemory) = Unit {0}
 pub record GaveScript (t : Taken) (script : List (List (List Line))) : Type 0 where
   pub text : List ℕ
   pub bytes : WasTaken t text
-  pub ended : HasEnded t
+  pub ended : IsReadOut t
   pub spelled : IsScriptText text script
 
 -- The source gave what is no script, to its end or until more bytes had come than a script may have; and this is the
@@ -50,7 +50,7 @@ pub record GaveScript (t : Taken) (script : List (List (List Line))) : Type 0 wh
 pub record GaveNoScript (t : Taken) (line : ℕ) : Type 0 where
   pub text : List ℕ
   pub bytes : WasTaken t text
-  pub whole : HasEnded t ⊎ (length text ≡ 4194305)
+  pub whole : IsReadOut t ⊎ (length text ≡ 4194305)
   pub fault : IsCause text (scripts.BadScript line)
 
 -- why there is no script

@@ -15,7 +15,7 @@ ghost use Rattle.bow_session.specs.Sessions.{IsOver, plan_in};
 ghost use Rattle.bow_play.specs.Leading.{PlayLeads};
 ghost use Rattle.bow_play.specs.Beginning.{HasBegun};
 ghost use Rattle.bow_play.specs.Playing.{DiskCause, IsPlay, PlayCause, fault_for};
-ghost use Rattle.bow_play.specs.Reading.{taken, GaveScript, ScriptCause};
+ghost use Rattle.bow_play.specs.Reading.{taken_from, GaveScript, ScriptCause};
 
 use crate::faults::PlayFault;
 use crate::streams::{ReadFault, read_all};
@@ -52,7 +52,7 @@ pub fn play<D: Disk, R: Ranges + Drop, S: Source>(
     disk: D,
     source: &mut S,
 ) -> Result<Session<D, R>, (PlayFault, D)>
-    ensures given { IfOk result (λ s. GaveScript (taken S.left S.gave S.ended source.old source.new)
+    ensures given { IfOk result (λ s. GaveScript (taken_from S.left S.gave S.ended source.old source.new)
         s.script) }
     ensures sizes { IfOk result (λ s. (D.stated s.core.disk ≡ Some s.core.geometry) × IsValid s.core.geometry) }
     ensures over { IfOk result (λ s. IsOver s) }
@@ -67,7 +67,7 @@ pub fn play<D: Disk, R: Ranges + Drop, S: Source>(
         → (Rose (D.faults disk) (D.faults s.core.disk) → ⊥)
         → PlayLeads D.content D.moment D.left_since (StandsAheadToo s.core.geometry) disk c s) }
     ensures cause { IfErr result (λ e. PlayCause D.stated D.content D.moment D.faults
-        (taken S.left S.gave S.ended source.old source.new) (S.faults source.old) (S.faults source.new) disk e.1 e.0) }
+        (taken_from S.left S.gave S.ended source.old source.new) (S.faults source.old) (S.faults source.new) disk e.1 e.0) }
     ensures kept { IfErr result (λ e. KeepsImage D.stated D.content D.moment D.left_since D.faults disk e.1) }
     ensures clock { IfErr result (λ e. (c : Content) → D.content disk ≡ Some c → D.moment e.1 ≤ D.moment disk + 2) }
 {
@@ -89,11 +89,11 @@ pub fn load<D: Disk, R: Ranges + Drop, S: Source>(
     disk: D,
     source: &mut S,
 ) -> Result<Session<D, R>, (PlayFault, D)>
-    ensures given { IfOk result (λ s. GaveScript (taken S.left S.gave S.ended source.old source.new)
+    ensures given { IfOk result (λ s. GaveScript (taken_from S.left S.gave S.ended source.old source.new)
         s.script) }
     ensures begun { IfOk result (λ s. HasBegun D.stated D.content D.moment D.left_since D.faults disk s) }
     ensures cause { IfErr result (λ e. PlayCause D.stated D.content D.moment D.faults
-        (taken S.left S.gave S.ended source.old source.new) (S.faults source.old) (S.faults source.new) disk e.1 e.0) }
+        (taken_from S.left S.gave S.ended source.old source.new) (S.faults source.old) (S.faults source.new) disk e.1 e.0) }
     ensures kept { IfErr result (λ e. KeepsImage D.stated D.content D.moment D.left_since D.faults disk e.1) }
     ensures clock { IfErr result (λ e. (c : Content) → D.content disk ≡ Some c → D.moment e.1 ≤ D.moment disk + 2) }
 {
@@ -105,11 +105,11 @@ pub fn load<D: Disk, R: Ranges + Drop, S: Source>(
 
 // Reads the script that the source gives.
 fn take_script<S: Source>(alloc: Global, source: &mut S) -> Result<Script, PlayFault>
-    ensures given { IfOk result (λ script. GaveScript (taken S.left S.gave S.ended source.old source.new)
+    ensures given { IfOk result (λ script. GaveScript (taken_from S.left S.gave S.ended source.old source.new)
         script) }
     ensures limits { IfOk result (λ script. IsWithinLimits script) }
     ensures numbers { IfOk result (λ script. IsWellFormed script) }
-    ensures cause { IfErr result (ScriptCause (taken S.left S.gave S.ended source.old source.new)
+    ensures cause { IfErr result (ScriptCause (taken_from S.left S.gave S.ended source.old source.new)
         (S.faults source.old) (S.faults source.new)) }
 {
     let text = match read_all(alloc, source) {

@@ -1,6 +1,6 @@
 // All that a source gives.
 ghost use Rattle.std.specs.Prelude.{◌≡◌, ◌≤◌, ℕ, length, IfOk};
-ghost use Rattle.bow_play.specs.Reading.{taken, WasTaken, HasEnded, ReadCause};
+ghost use Rattle.bow_play.specs.Reading.{taken_from, WasTaken, IsReadOut, ReadCause};
 
 use bow_units::Source;
 use std::alloc::Global;
@@ -21,11 +21,11 @@ const LIMIT: usize = 4_194_305;
 
 /// Reads a source to its end, or until 4,194,305 bytes have come.
 pub(crate) fn read_all<S: Source>(alloc: Global, source: &mut S) -> Result<Vec<u8>, ReadFault>
-    ensures bytes { IfOk result (λ v. let t = taken S.left S.gave S.ended source.old source.new in
-        WasTaken t v.items × HasEnded t) }
+    ensures bytes { IfOk result (λ v. let t = taken_from S.left S.gave S.ended source.old source.new in
+        WasTaken t v.items × IsReadOut t) }
     ensures few { IfOk result (λ v. length v.items ≤ 4194304) }
     ensures faults { S.faults source.old ≤ S.faults source.new }
-    ensures cause { ReadCause (taken S.left S.gave S.ended source.old source.new) (S.faults source.old)
+    ensures cause { ReadCause (taken_from S.left S.gave S.ended source.old source.new) (S.faults source.old)
         (S.faults source.new) result }
 {
     let mut bytes = Vec::new(alloc);

@@ -13,7 +13,7 @@ use Rattle.bow_play.specs.declared.faults.PlayFault.{PlayFault}
 use Rattle.bow_play.specs.declared.faults.PlayFault.TheVariants as plays
 use Rattle.bow_tool.specs.declared.refusals.Refusal.{Refusal}
 use Rattle.bow_tool.specs.Refusals.{status_of}
-use Rattle.bow_tool.specs.Outside.{Call, taken_in}
+use Rattle.bow_tool.specs.Outside.{Call, from_source}
 use Rattle.bow_session.specs.Sessions.{Run}
 use Rattle.bow_tool.specs.Play.{PlayInOrder, RunNotCleared, RunRefused, TellsScript, WasNotPlayed, refusal_for}
 
@@ -49,7 +49,7 @@ plain_kept (Some c) (Some d) k told goes magic = subst BeginsMagic told (magic_i
 
 not_played : (c : Call) (fault : PlayFault) → PlayInOrder c → WasNotPlayed c fault → status_of (refusal_for fault) ≡ 11
 not_played c plays.SourceFault order none = absurd (order.source none.cause.0)
-not_played c (plays.BadScript line) order none = let gave : GaveNoScript (taken_in c) line = none.cause.0 in absurd (no_other (taken_in c).left (taken_in c).rest gave.text line order.script gave.bytes.0 (whole_text (taken_in c) line gave) gave.fault)
+not_played c (plays.BadScript line) order none = let gave : GaveNoScript (from_source c) line = none.cause.0 in absurd (no_other (from_source c).left (from_source c).rest gave.text line order.script gave.bytes.0 (whole_text (from_source c) line gave) gave.fault)
 not_played c (plays.BadGeometry g) order none = absurd (none.cause.1.1 (order.sizes g none.cause.1.0))
 not_played c plays.DiskFault order none = absurd (order.disk none.cause.1.0)
 not_played c plays.NeedsRestore order none = absurd (order.plain (plain_kept (c.disks.content c.disk) (c.disks.content c.disk_after) order.content order.told none.kept.image none.cause.1.1))

@@ -16,12 +16,12 @@ use Rattle.bow_guard.specs.Standing.{StandsFor}
 use Rattle.bow_play.specs.Leading.{PlayLeads}
 use Rattle.bow_promise.proofs.Played.{plays_are_promised}
 use Rattle.bow_promise.proofs.Spaced.{plays_find_no_space_truly}
-use Rattle.bow_tool.specs.Outside.{Call, KeeperLeft, taken_in}
+use Rattle.bow_tool.specs.Outside.{Call, KeeperLeft, from_source}
 use Rattle.bow_tool.specs.Play.{WasNotPlayed, WasRun}
 
 module _ (c : Call) (begun : Run c.Disk) (b : HasBegun c.disks.stated c.disks.content c.disks.moment c.disks.left_since c.disks.faults c.disk begun) where
   -- a session that ran to its end
-  pub was_run : (s : Run c.Disk) → GaveScript (taken_in c) begun.script → s.script ≡ begun.script → c.disk_after ≡ s.core.disk
+  pub was_run : (s : Run c.Disk) → GaveScript (from_source c) begun.script → s.script ≡ begun.script → c.disk_after ≡ s.core.disk
       → WasLoaded c.disks.stated c.disks.content c.disks.moment c.disks.left_since c.disks.faults b.first s
       → IsOver s → s.core.memory.requests ≡ [] → Agrees (plan_in s) (state_in s) (state_in s).kept → IsComplete (plan_in s) s.journal
       → ((d : c.Disk) (k : Content) → c.disks.content d ≡ Some k → (g : Geometry) → c.disks.stated d ≡ Some g → IsShaped g.block_size g.blocks k)
@@ -35,7 +35,7 @@ module _ (c : Call) (begun : Run c.Disk) (b : HasBegun c.disks.stated c.disks.co
       let led : (k : Content) → c.disks.content c.disk ≡ Some k → PlayLeads c.disks.content c.disks.moment c.disks.left_since (StandsFor s.core.geometry) c.disk k s =
       λ k is. leads c.disks.stated c.disks.content c.disks.moment c.disks.left_since c.disks.faults c.disk begun b s loaded shaped cuts_shaped counts_now only_now idle buffers k is in
       record {
-        given = subst (λ (x : List (List (List Line))). GaveScript (taken_in c) x) (sym script) given;
+        given = subst (λ (x : List (List (List Line))). GaveScript (from_source c) x) (sym script) given;
         disk = disk;
         sizes = sizes;
         over = over;

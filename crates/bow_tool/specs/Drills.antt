@@ -172,14 +172,17 @@ abbrev pub is_fault : Item → Bool
 is_fault (items.Answered lane number (outcomes.DiskFault done)) = true
 is_fault item = false
 
+-- the line of the number that the drill was given
 abbrev pub number_line : ℕ → List ℕ
 number_line number = codes "drill " ++ (decimal number ++ codes "\n")
 
+-- the line of the turns that were made, and of the requests that were answered, and that found no space
 abbrev pub turns_line : ℕ → List Item → List ℕ
 turns_line turns journal = codes "turns " ++ (decimal turns ++ (codes " answered "
     ++ (decimal (count_by is_answer journal) ++ (codes " no space " ++ (decimal (count_by is_full journal)
     ++ codes "\n")))))
 
+-- the line of how many blocks were kept, of those that were used
 abbrev pub kept_line : ℕ → ℕ → List ℕ
 kept_line kept used = codes "kept " ++ (decimal kept ++ (codes " of " ++ (decimal used ++ codes "\n")))
 

@@ -2,7 +2,7 @@
 use Rattle.std.specs.Prelude.{◌≡◌, ℕ, List, Option}
 use Rattle.bow_units.specs.declared.sizes.Geometry.{Geometry}
 use Rattle.bow_disk.specs.Disk.{Content}
-use Rattle.bow_play.specs.Reading.{Taken, taken}
+use Rattle.bow_play.specs.Reading.{Taken, taken_from}
 
 -- what a source of this type tells: the bytes that it has left, what it gave from one state to another, whether it has
 -- ended, and its count of faults
@@ -80,8 +80,8 @@ call_of {S} {D} {K} sources disks keepers source source_after disk disk_after ke
     }
 
 -- what the call took from the source
-abbrev pub taken_in : Call → Taken
-taken_in c = taken c.sources.left c.sources.gave c.sources.ended c.source c.source_after
+abbrev pub from_source : Call → Taken
+from_source c = taken_from c.sources.left c.sources.gave c.sources.ended c.source c.source_after
 
 -- the source is left as it was given
 abbrev pub SourceLeft : Call → Type 0

@@ -30,7 +30,7 @@ use Rattle.vold_meta.specs.Keeper.{Goes, TimeGoes}
 use Rattle.bow_tool.specs.declared.refusals.Refusal.{Refusal}
 use Rattle.bow_tool.specs.declared.refusals.Refusal.TheVariants.{BadScript, SourceFault, DiskFault, KeeperFault, NeedsRestore, NoMemory, BadGeometry}
 use Rattle.bow_tool.specs.Refusals.{refusal_line}
-use Rattle.bow_tool.specs.Outside.{Call, KeeperView, KeeperLeft, taken_in}
+use Rattle.bow_tool.specs.Outside.{Call, KeeperView, KeeperLeft, from_source}
 use Rattle.bow_tool.specs.Sizes.{HasSizes}
 
 -- The script that the source gave was run to its end in this session, over a device that was opened on the disk. Each
@@ -40,7 +40,7 @@ use Rattle.bow_tool.specs.Sizes.{HasSizes}
 -- only where there is none. Whatever a cut leaves is promised: over any number of restorations and boots after it, each
 -- cut anywhere, the first that ends well has the checkpoint back, or what was flushed, by where the cut came.
 pub record WasRun (c : Call) (s : Run c.Disk) : Type 0 where
-  pub given : GaveScript (taken_in c) s.script
+  pub given : GaveScript (from_source c) s.script
   pub disk : c.disk_after ≡ s.core.disk
   pub sizes : HasSizes c.disks s.core.disk s.core.geometry
   pub over : IsOver s
@@ -111,7 +111,7 @@ refusal_for plays.NoMemory = NoMemory
 -- most, and a cut leaves nothing that it might not have left before
 pub record WasNotPlayed (c : Call) (fault : PlayFault) : Type 0 where
   pub keeper : KeeperLeft c
-  pub cause : PlayCause c.disks.stated c.disks.content c.disks.moment c.disks.faults (taken_in c)
+  pub cause : PlayCause c.disks.stated c.disks.content c.disks.moment c.disks.faults (from_source c)
       (c.sources.faults c.source) (c.sources.faults c.source_after) c.disk c.disk_after fault
   pub kept : KeepsImage c.disks.stated c.disks.content c.disks.moment c.disks.left_since c.disks.faults c.disk
       c.disk_after

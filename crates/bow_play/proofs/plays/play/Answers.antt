@@ -1,5 +1,5 @@
 use Rattle.std.proofs.Common.{[], sym, subst}
-use Rattle.bow_play.specs.Reading.{taken, GaveScript}
+use Rattle.bow_play.specs.Reading.{taken_from, GaveScript}
 use Rattle.bow_play.proofs.Ends.{ahead, faults_told, leads, sizes_told}
 use Rattle.bow_play.proofs.Runs.{drawn_from}
 use Rattle.bow_play.proofs.plays.play.Goals as goal
@@ -8,7 +8,7 @@ pub returns-clause-given : goal.returns-clause-given
 returns-clause-given g c =
     let b = c.in-Ok.ensures.begun in
     let end = c.finish.ensures in
-    subst (λ script. GaveScript (taken g.S.Source.left g.S.Source.gave g.S.Source.ended c.args.source.now c.load.new.source) script) (sym end.script.0) c.in-Ok.ensures.given
+    subst (λ script. GaveScript (taken_from g.S.Source.left g.S.Source.gave g.S.Source.ended c.args.source.now c.load.new.source) script) (sym end.script.0) c.in-Ok.ensures.given
 
 pub returns-clause-sizes : goal.returns-clause-sizes
 returns-clause-sizes g c =
