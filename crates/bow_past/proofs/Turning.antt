@@ -26,13 +26,19 @@ use Rattle.bow_machine.proofs.SoundPast.{older_logs_stay, readers_follow}
 use Rattle.bow_machine.proofs.Whole.{step_keeps}
 use Rattle.bow_core.specs.Calls.{DoesOne}
 use Rattle.bow_core.specs.Standing.{StandsIn, StandsOver}
+use Rattle.bow_core.proofs.Beside.{admitted_stands}
 use Rattle.bow_core.proofs.Leading.{does_it}
+use Rattle.bow_history.proofs.Lists.{serials_below}
+use Rattle.bow_machine.proofs.SoundLists.{own_tickets}
+use Rattle.bow_queue.specs.declared.tickets.Ticket.{Ticket}
+use Rattle.bow_units.specs.declared.requests.Op.{Op}
+use Rattle.bow_history.specs.SoundSessions.{IsSoundSession}
 use Rattle.bow_history.specs.Journal.{Plan}
-use Rattle.bow_history.specs.Sessions.{Session, Admits, Steps, after_turn_of, call_of_turn, device_step, taken_in, turn_of, told_to, unknown}
+use Rattle.bow_history.specs.Sessions.{Session, Admits, Steps, after_turn_of, call_of_turn, device_step, IsAdmission, taken_in, turn_of, told_to, unknown}
 use Rattle.bow_session.specs.Sessions.{Run, plan_in, state_in}
 use Rattle.bow_past.specs.Agreement.{Agrees, AgreesIn, AgreesOver, AreAmong, older_of}
 use Rattle.bow_past.specs.Readings.{Reading, kept_of}
-use Rattle.bow_past.specs.Turns.{TurnsKeepAgreement}
+use Rattle.bow_past.specs.Turns.{TurnsKeepAgreement, TurnsKeepStanding}
 use Rattle.bow_past.proofs.Reading.{older_more}
 
 -- ----------------------------------------------------------------------------------------------------------------
@@ -140,8 +146,20 @@ module _ (g : Geometry) (m after_memory : Memory) (turn : Turn) (reply : Reply) 
   pub device_keeps : AgreesOver g (Some c) m.log kept m.phase → AgreesOver g (Some d) after_memory.log kept after_memory.phase
   device_keeps agrees = go m.phase after_memory.phase refl refl rises agrees
 
+  pub device_stands : (h : Flat) × IsStanding g after_memory (contents_of d.now) (candidates_of d.candidates) h
+  device_stands =
+      let k = step_keeps g m turn reply (contents_of c.now) (contents_of d.now) (candidates_of c.candidates) (candidates_of d.candidates) f stands does in
+      (after_all g.blocks step.events f, subst (λ n. IsStanding g n (contents_of d.now) (candidates_of d.candidates) (after_all g.blocks step.events f)) (sym memory) k.1)
+
 -- ----------------------------------------------------------------------------------------------------------------
 -- A turn of a session.
+
+-- without a call nothing is done
+nothing_done : (reply : Reply) (o n : Option Content) → Goes (DoesOne None reply) o n → n ≡ o
+nothing_done reply None None goes = refl
+nothing_done reply None (Some d) goes = absurd goes
+nothing_done reply (Some c) None goes = absurd goes
+nothing_done reply (Some c) (Some d) goes = ap Some (λ k. record { now = goes.0 k; candidates = goes.1 k })
 
 told_memory : (plan : Plan) (s : Session) (told : Told) → (told_to plan s told).memory ≡ s.memory
 told_memory plan s Idle = refl
@@ -192,13 +210,52 @@ module _ {D : Type 0} (stated : D → Option Geometry) (content : D → Option C
     where
       by : (o : Option Turn) → turn_of (state_in old) actor ≡ o → Goes (DoesOne (call_of_turn (plan_in old) (state_in old) o) reply) (content old.core.disk) (content new.core.disk)
           → new.core.memory ≡ (after_turn_of (plan_in old) (state_in old) o reply).memory → Agrees content p new.core
-      by None is goes memory = unmoved p old new f stands sizes agrees one.geometry (ap (λ (m : Memory). m.log) memory) (ap (λ (m : Memory). m.phase) memory) (nothing (content old.core.disk) (content new.core.disk) goes)
-        where
-          nothing : (o n : Option Content) → Goes (DoesOne None reply) o n → n ≡ o
-          nothing None None goes = refl
-          nothing None (Some d) goes = absurd goes
-          nothing (Some c) None goes = absurd goes
-          nothing (Some c) (Some d) goes = ap Some (λ k. record { now = goes.0 k; candidates = goes.1 k })
+      by None is goes memory = unmoved p old new f stands sizes agrees one.geometry (ap (λ (m : Memory). m.log) memory) (ap (λ (m : Memory). m.phase) memory) (nothing_done reply (content old.core.disk) (content new.core.disk) goes)
       by (Some turn) is goes memory =
           let step = device_step old.core.geometry old.core.memory turn reply in
           moved p old new f stands sizes agrees one.geometry turn reply (memory ∙ told_memory (plan_in old) (record (state_in old) { memory = step.memory }) step.told) (one.passes).sizes goes
+
+  -- ----------------------------------------------------------------------------------------------------------------
+  -- The device stands for a flat state again.
+
+  module _ (old new : Run D) (f : Flat) (stands : StandsIn content old.core f) (sizes : stated old.core.disk ≡ Some old.core.geometry) (geometry : new.core.geometry ≡ old.core.geometry) where
+    stands_over : (m : Memory) → new.core.memory ≡ m → (h : Flat) → StandsOver old.core.geometry m (content new.core.disk) h → (g : Flat) × StandsIn content new.core g
+    stands_over m is h standing = (h, subst (λ k. StandsOver k new.core.memory (content new.core.disk) h) (sym geometry) (subst (λ n. StandsOver old.core.geometry n (content new.core.disk) h) (sym is) standing))
+
+    stepped : (turn : Turn) (reply : Reply) → new.core.memory ≡ (device_step old.core.geometry old.core.memory turn reply).memory → stated new.core.disk ≡ Some old.core.geometry
+        → Goes (DoesOne (call_of old.core.geometry old.core.memory (task_of old.core.geometry old.core.memory turn)) reply) (content old.core.disk) (content new.core.disk) → (g : Flat) × StandsIn content new.core g
+    stepped turn reply memory stated_new goes = by (content old.core.disk) refl (content new.core.disk) refl stands goes
+      where
+        by : (o : Option Content) → content old.core.disk ≡ o → (n : Option Content) → content new.core.disk ≡ n → StandsOver old.core.geometry old.core.memory o f
+            → Goes (DoesOne (call_of old.core.geometry old.core.memory (task_of old.core.geometry old.core.memory turn)) reply) o n → (g : Flat) × StandsIn content new.core g
+        by None a n b none goes = absurd none
+        by (Some c) a None b standing goes = absurd goes
+        by (Some c) a (Some d) b standing goes =
+            let g = old.core.geometry in
+            let does = does_it g c d (shaped old.core.disk c a g sizes) (shaped new.core.disk d b g stated_new) (call_of g old.core.memory (task_of g old.core.memory turn)) reply (calls_are_on_device g old.core.memory turn standing.sound) goes in
+            let k = device_stands g old.core.memory new.core.memory turn reply c d f (λ n. None) standing does memory in
+            stands_over new.core.memory refl k.0 (subst (λ o. StandsOver g new.core.memory o k.0) (sym b) k.1)
+
+    same_stands : new.core.memory ≡ old.core.memory → content new.core.disk ≡ content old.core.disk → (g : Flat) × StandsIn content new.core g
+    same_stands memory told = stands_over old.core.memory memory f (subst (λ o. StandsOver old.core.geometry old.core.memory o f) (sym told) stands)
+
+    taken_stands : (lane : ℕ) (ticket : Ticket) (op : Op) → IsSoundSession (plan_in old) (state_in old) → IsAdmission (plan_in old) (state_in old) lane ticket op
+        → new.core.memory ≡ taken_in old.core.memory ticket op → content new.core.disk ≡ content old.core.disk → (g : Flat) × StandsIn content new.core g
+    taken_stands lane ticket op sound a memory told =
+        let below = serials_below old.core.memory.requests ticket (λ t r found. let low = (sound.seated).serials t r found in omega (arith, low, a.serial)) (own_tickets old.core.memory.requests (sound.memory).rising) in
+        stands_over (taken_in old.core.memory ticket op) memory f
+        (subst (λ o. StandsOver old.core.geometry (taken_in old.core.memory ticket op) o f) (sym told)
+        (admitted_stands old.core.geometry old.core.memory (record { ticket = ticket; op = op; done = 0 }) (content old.core.disk) f a.whole refl below a.place stands))
+
+  pub turns_keep_standing : TurnsKeepStanding stated content moment left faults
+  turns_keep_standing old new (Admits lane ticket op) f stands sound sizes one =
+      taken_stands old new f stands sizes one.geometry lane ticket op sound one.may (ap (λ (s : Session). s.memory) one.state) (ap content (one.passes).0)
+  turns_keep_standing old new (Steps actor reply) f stands sound sizes one =
+      by (turn_of (state_in old) actor) refl (one.passes).disk (ap (λ (s : Session). s.memory) one.state)
+    where
+      by : (o : Option Turn) → turn_of (state_in old) actor ≡ o → Goes (DoesOne (call_of_turn (plan_in old) (state_in old) o) reply) (content old.core.disk) (content new.core.disk)
+          → new.core.memory ≡ (after_turn_of (plan_in old) (state_in old) o reply).memory → (g : Flat) × StandsIn content new.core g
+      by None is goes memory = same_stands old new f stands sizes one.geometry memory (nothing_done reply (content old.core.disk) (content new.core.disk) goes)
+      by (Some turn) is goes memory =
+          let step = device_step old.core.geometry old.core.memory turn reply in
+          stepped old new f stands sizes one.geometry turn reply (memory ∙ told_memory (plan_in old) (record (state_in old) { memory = step.memory }) step.told) (one.passes).sizes goes

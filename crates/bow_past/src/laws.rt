@@ -1,6 +1,6 @@
 // What holds of the checkpoint beside running writers, whatever reads it.
 ghost use Rattle.bow_past.specs.Reach.{LiveIsSound, ReachesTheCheckpoint};
-ghost use Rattle.bow_past.specs.Turns.{TurnsKeepAgreement};
+ghost use Rattle.bow_past.specs.Turns.{TurnsKeepAgreement, TurnsKeepStanding};
 
 use bow_disk::Disk;
 
@@ -13,7 +13,9 @@ pub fn past_law()
 
 /// A step of a session from the checkpoint to the checkpoint changes no older log, and may only add one; and before and
 /// after the checkpoint a reader has nothing to lean on. So a reader that agrees with a session does so after each turn
-/// of it.
+/// of it. Such a turn leads to a session whose device stands for a flat state again; and a step of a reader keeps all
+/// that it stands for.
 pub fn agreement_law<D: Disk>()
-    ensures { TurnsKeepAgreement D.stated D.content D.moment D.left_since D.faults }
+    ensures agreement { TurnsKeepAgreement D.stated D.content D.moment D.left_since D.faults }
+    ensures standing { TurnsKeepStanding D.stated D.content D.moment D.left_since D.faults }
 {}
