@@ -67,7 +67,8 @@ pub fn play<D: Disk, R: Ranges + Drop, S: Source>(
         → (Rose (D.faults disk) (D.faults s.core.disk) → ⊥)
         → PlayLeads D.content D.moment D.left_since (StandsAheadToo s.core.geometry) disk c s) }
     ensures cause { IfErr result (λ e. PlayCause D.stated D.content D.moment D.faults
-        (taken_from S.left S.gave S.ended source.old source.new) (S.faults source.old) (S.faults source.new) disk e.1 e.0) }
+        (taken_from S.left S.gave S.ended source.old source.new) (S.faults source.old) (S.faults source.new) disk e.1
+        e.0) }
     ensures kept { IfErr result (λ e. KeepsImage D.stated D.content D.moment D.left_since D.faults disk e.1) }
     ensures clock { IfErr result (λ e. (c : Content) → D.content disk ≡ Some c → D.moment e.1 ≤ D.moment disk + 2) }
 {
@@ -93,7 +94,8 @@ pub fn load<D: Disk, R: Ranges + Drop, S: Source>(
         s.script) }
     ensures begun { IfOk result (λ s. HasBegun D.stated D.content D.moment D.left_since D.faults disk s) }
     ensures cause { IfErr result (λ e. PlayCause D.stated D.content D.moment D.faults
-        (taken_from S.left S.gave S.ended source.old source.new) (S.faults source.old) (S.faults source.new) disk e.1 e.0) }
+        (taken_from S.left S.gave S.ended source.old source.new) (S.faults source.old) (S.faults source.new) disk e.1
+        e.0) }
     ensures kept { IfErr result (λ e. KeepsImage D.stated D.content D.moment D.left_since D.faults disk e.1) }
     ensures clock { IfErr result (λ e. (c : Content) → D.content disk ≡ Some c → D.moment e.1 ≤ D.moment disk + 2) }
 {

@@ -2,8 +2,8 @@
 use std::marker::Brand;
 
 /// What a desk began with. What lies under a lock is known by its type alone, so the facts about the beginning reach it
-/// as members of a type parameter. A program passes `Brand` to a function that opens a desk, runs its callers and closes
-/// it, and there picks the members.
+/// as members of a type parameter. A program passes `Brand` to a function that opens a desk, runs its callers and
+/// closes it, and there picks the members.
 pub trait Naming<D> {
     ghost use Rattle.std.specs.Prelude.{ℕ};
     ghost use Rattle.atomic_table.specs.Seated.{TableId};

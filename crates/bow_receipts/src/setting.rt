@@ -106,9 +106,9 @@ fn passes_of<J: Naming<D>, D>(
 }
 
 impl<J: Naming<D>, D: Disk, R: Ranges> Desk<J, D, R> {
-    /// A desk over a device of 16 places in which no request waits, with a pass for each of its callers, in their order.
-    /// It takes the room for the journal and all calls, but for the bytes that they hand over. `NoMemory` comes with the
-    /// device as it was.
+    /// A desk over a device of 16 places in which no request waits, with a pass for each of its callers, in their
+    /// order. It takes the room for the journal and all calls, but for the bytes that they hand over. `NoMemory` comes
+    /// with the device as it was.
     pub fn set_up(
         alloc: Global,
         core: Core<D, R>,
