@@ -8,7 +8,7 @@ use Rattle.bow_units.specs.declared.requests.Op.{Op}
 use Rattle.bow_tags.specs.declared.view.Entry.{Entry}
 use Rattle.bow_tags.specs.declared.view.View.{View as SeatView}
 use Rattle.bow_tags.specs.declared.view.Stance.TheVariants.{Idle}
-use Rattle.bow_tags.specs.Seats.{Sitting, IsFirstLane, after_post}
+use Rattle.bow_tags.specs.Seats.{Sitting, IsFirstLane, after_post, Numbered}
 use Rattle.bow_tags.specs.Steps.{entry, lane_of}
 use Rattle.bow_receipts.specs.declared.asks.Answer.{Answer}
 use Rattle.bow_receipts.specs.Openings.{may_of}
@@ -108,3 +108,14 @@ new_pass allowed calls lane n got is may none =
 pub only_one : {A : Type 0} (xs ys : List A) (x : A) → xs ≡ ys ++ x ∷ [] → length xs ≡ 1 → get_elem? xs 0 ≡ some x
 only_one {A} xs [] x is one = ap (λ (zs : List A). get_elem? zs 0) is
 only_one xs (y ∷ ys) x is one = absurd (let l = ap length is in let m = length-append (y ∷ ys) (x ∷ []) in omega (arith, l, m, one))
+
+-- two passes, in their order
+pub two_in_order : (xs ys zs : List Caller) (a b : Caller) → xs ≡ [] → ys ≡ xs ++ a ∷ [] → zs ≡ ys ++ b ∷ [] → a.lane ≡ 0 → b.lane ≡ 1 → Numbered (λ i (p : Caller). p.lane ≡ i) zs
+two_in_order xs ys zs a b none one two zeroth first i p at =
+    let all : zs ≡ a ∷ (b ∷ []) = two ∙ ap (λ (l : List Caller). l ++ b ∷ []) (one ∙ ap (λ (l : List Caller). l ++ a ∷ []) none) in
+    by i (ap (λ (l : List Caller). get_elem? l i) (sym all) ∙ at)
+  where
+    by : (i : ℕ) → get_elem? (a ∷ (b ∷ [])) i ≡ some p → p.lane ≡ i
+    by zero here = ap (λ (q : Caller). q.lane) (sym (some-injective a p here)) ∙ zeroth
+    by (suc zero) here = ap (λ (q : Caller). q.lane) (sym (some-injective b p here)) ∙ first
+    by (suc (suc i)) here = absurd (some-ne-none p (sym here))

@@ -45,3 +45,10 @@ pub record AreSeats (table : TableId) (size callers : ℕ) (allowed : ℕ → �
   pub many : length seats ≡ length passes
   pub each : (i : ℕ) (p : Caller) (s : Sitting Op Answer) → slice_get passes i ≡ Some p → slice_get seats i ≡ Some s
       → IsPass table size callers allowed s p.lane p.made p.may × (s.view.got ≡ p.got)
+
+-- there is room for the seats of so many callers and of one server
+pub record HaveRoom (callers : ℕ) (lanes servers : List (Sitting Op Answer)) (room one : ℕ) : Type 0 where
+  pub no_lanes : lanes ≡ []
+  pub no_servers : servers ≡ []
+  pub lanes_fit : callers ≤ room
+  pub server_fits : 1 ≤ one

@@ -6,6 +6,7 @@ ghost use Rattle.bow_receipts.specs.Passes.{AreSeats};
 
 use crate::asks::{Answer, Ask, Call};
 use crate::desk::Desk;
+use crate::locked::Parts;
 use crate::naming::Naming;
 use crate::passes::Pass;
 use crate::service::Service;
@@ -39,11 +40,13 @@ impl<J: Naming<D>, D: Disk, R: Ranges> Desk<J, D, R> {
             alloc: _,
             tags,
             locked,
+        } = self;
+        let Parts {
+            service,
             lanes,
             mut servers,
-        } = self;
+        } = locked.into_inner().into_parts();
         let lanes = seats_of(lanes, passes);
-        let service = locked.into_inner().into_service();
         let Service {
             core,
             server,

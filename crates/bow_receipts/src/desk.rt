@@ -16,7 +16,7 @@ use crate::naming::Naming;
 use crate::passes::Pass;
 use bow_disk::Disk;
 use bow_ranges::Ranges;
-use bow_tags::{LaneSeat, ServerSeat, Tags};
+use bow_tags::{LaneSeat, Tags};
 use bow_units::{Op, Seen};
 use std::alloc::Global;
 use std::marker::Model;
@@ -29,21 +29,17 @@ pub struct Desk<J: Naming<D>, D: Disk, R: Ranges> {
     pub(crate) alloc: Global,
     pub(crate) tags: Tags<Ask, Answer>,
     pub(crate) locked: Mutex<Locked<J, D, R>>,
-    // Room for the seats of its callers and of its server when it is closed.
-    pub(crate) lanes: Vec<LaneSeat<Ask, Answer>>,
-    pub(crate) servers: Vec<ServerSeat<Ask, Answer>>,
 }
 
 impl<J: Naming<D>, D: Disk, R: Ranges> Model for Desk<J, D, R> {
-    ghost use Rattle.std.specs.Prelude.{◌≡◌, ◌≤◌, [], vec_capacity};
+    ghost use Rattle.std.specs.Prelude.{◌≡◌};
     ghost use Rattle.atomic_table.specs.Seated.{TableId};
 
     ghost Value = { TableId };
 
     ghost view = { λ d. d.tags };
 
-    ghost invariant = { λ d. (d.tags ≡ J.table) × (d.lanes.items ≡ []) × (J.callers ≤ vec_capacity d.lanes)
-        × (d.servers.items ≡ []) × (1 ≤ vec_capacity d.servers) };
+    ghost invariant = { λ d. d.tags ≡ J.table };
 }
 
 impl<J: Naming<D>, D: Disk, R: Ranges> Desk<J, D, R> {

@@ -1,5 +1,6 @@
 // The value under the lock.
-ghost use Rattle.std.specs.Prelude.{◌≡◌, ◌<◌};
+ghost use Rattle.std.specs.Prelude.{◌≡◌, ◌<◌, vec_capacity};
+ghost use Rattle.bow_receipts.specs.Passes.{HaveRoom};
 ghost use Rattle.bow_receipts.specs.Served.{Serves};
 
 use crate::asks::{Answer, Ask};
@@ -7,39 +8,60 @@ use crate::naming::Naming;
 use crate::service::Service;
 use bow_disk::Disk;
 use bow_ranges::Ranges;
-use bow_tags::Tags;
+use bow_tags::{LaneSeat, ServerSeat, Tags};
 use bow_units::Seen;
 use std::marker::{Model, PhantomData};
 
-// The device with what its callers have in hand and what was done, and the number of steps made. It keeps that this is
-// the history of the callers of the desk that J names.
+// The device with what its callers have in hand and what was done, the number of steps made, and room for the seats of
+// all callers and of the server when the desk is closed. It keeps that this is the history of the callers of the desk
+// that J names.
 #[derive(Drop)]
 pub(crate) struct Locked<J: Naming<D>, D: Disk, R: Ranges> {
     service: Service<D, R>,
     steps: u64,
+    lanes: Vec<LaneSeat<Ask, Answer>>,
+    servers: Vec<ServerSeat<Ask, Answer>>,
     of: PhantomData<J>,
 }
 
+// What it hands back when the desk is closed.
+#[derive(Drop)]
+pub(crate) struct Parts<D: Disk, R: Ranges> {
+    pub(crate) service: Service<D, R>,
+    pub(crate) lanes: Vec<LaneSeat<Ask, Answer>>,
+    pub(crate) servers: Vec<ServerSeat<Ask, Answer>>,
+}
+
 impl<J: Naming<D>, D: Disk, R: Ranges> Model for Locked<J, D, R> {
+    ghost use Rattle.std.specs.Prelude.{vec_capacity};
     ghost use Rattle.bow_receipts.specs.declared.service.Service.{Service};
+    ghost use Rattle.bow_receipts.specs.Passes.{HaveRoom};
     ghost use Rattle.bow_receipts.specs.Served.{Serves};
 
     ghost Value = { Service D R };
 
     ghost view = { λ l. l.service };
 
-    ghost invariant = { λ l. Serves D.stated D.content D.moment D.left_since D.faults J.sizes J.callers J.allowed
+    ghost invariant = { λ l. HaveRoom J.callers l.lanes.items l.servers.items (vec_capacity l.lanes)
+        (vec_capacity l.servers) × Serves D.stated D.content D.moment D.left_since D.faults J.sizes J.callers J.allowed
         J.table J.begins l.service };
 }
 
 impl<J: Naming<D>, D: Disk, R: Ranges> Locked<J, D, R> {
-    pub(crate) fn new(service: Service<D, R>) -> Locked<J, D, R>
-        requires { Serves D.stated D.content D.moment D.left_since D.faults J.sizes J.callers J.allowed J.table
+    pub(crate) fn new(
+        service: Service<D, R>,
+        lanes: Vec<LaneSeat<Ask, Answer>>,
+        servers: Vec<ServerSeat<Ask, Answer>>,
+    ) -> Locked<J, D, R>
+        requires room { HaveRoom J.callers lanes.items servers.items (vec_capacity lanes) (vec_capacity servers) }
+        requires serves { Serves D.stated D.content D.moment D.left_since D.faults J.sizes J.callers J.allowed J.table
             J.begins service }
     {
         Locked {
             service,
             steps: 0,
+            lanes,
+            servers,
             of: PhantomData,
         }
     }
@@ -71,15 +93,23 @@ impl<J: Naming<D>, D: Disk, R: Ranges> Locked<J, D, R> {
         }
     }
 
-    pub(crate) fn into_service(self) -> Service<D, R>
-        ensures { Serves D.stated D.content D.moment D.left_since D.faults J.sizes J.callers J.allowed J.table J.begins
-            result }
+    pub(crate) fn into_parts(self) -> Parts<D, R>
+        ensures serves { Serves D.stated D.content D.moment D.left_since D.faults J.sizes J.callers J.allowed J.table J.begins
+            result.service }
+        ensures room { HaveRoom J.callers result.lanes.items result.servers.items (vec_capacity result.lanes)
+            (vec_capacity result.servers) }
     {
         let Locked {
             service,
             steps: _,
+            lanes,
+            servers,
             of: _,
         } = self;
-        service
+        Parts {
+            service,
+            lanes,
+            servers,
+        }
     }
 }

@@ -153,9 +153,7 @@ impl<J: Naming<D>, D: Disk, R: Ranges> Desk<J, D, R> {
         let desk = Desk {
             alloc,
             tags,
-            locked: Mutex::new(Locked::new(service)),
-            lanes: rooms.lanes,
-            servers: rooms.servers,
+            locked: Mutex::new(Locked::new(service, rooms.lanes, rooms.servers)),
         };
         Ok((desk, passes))
     }

@@ -2,7 +2,7 @@
 ghost use Rattle.std.specs.Prelude.{◌≡◌, ◌-◌, ◌^◌, ◌<◌, ◌≤◌, [], length, IfOk};
 ghost use Rattle.bow_receipts.specs.Openings.{may_of};
 
-use crate::{Answer, Callers, Closed, Desk, Naming, Pass};
+use crate::{Answer, CallFault, Callers, Closed, Desk, Naming, Pass};
 use bow_core::Core;
 use bow_disk::MemDisk;
 use bow_history::Item;
@@ -26,7 +26,8 @@ fn block_of(alloc: Global, text: &str) -> Result<Payload, NoMemory>
     Ok(Payload::new(bytes))
 }
 
-// Writes the text to the caller's own block, and reads that block: two calls. It gives the answer to the read.
+// Writes the text to the caller's own block, and reads that block: two calls, after which the pass is spent. It gives
+// the answer to the read.
 fn write_and_read<J: Naming<MemDisk>, H: Wait>(
     rt: &H,
     alloc: Global,
@@ -46,7 +47,11 @@ fn write_and_read<J: Naming<MemDisk>, H: Wait>(
         return None;
     }
     let buffer = block_of(alloc, "").ok()?;
-    desk.call(rt, pass, Op::Read(own, buffer)).ok()
+    let answer = desk.call(rt, pass, Op::Read(own, buffer)).ok()?;
+    match desk.call(rt, pass, Op::Flush) {
+        Err((Op::Flush, CallFault::Spent)) => Some(answer),
+        _ => None,
+    }
 }
 
 // The same, with a pass that is handed over and given back.
@@ -98,9 +103,18 @@ fn by_two<J: Naming<MemDisk> + Send + Sync, H: Threads + Wait + Sync>(
         || go(rt, alloc, &desk, first, "of the first"),
         || go(rt, alloc, &desk, second, "of the second"),
     );
-    passes.push(one.0)?;
-    passes.push(other.0)?;
-    Ok((one.1, other.1, desk.close(passes)))
+    let (first, one) = one;
+    let (second, other) = other;
+    if first.lane() != 0 {
+        return Err(Fail::from("another first caller"));
+    }
+    if second.lane() != 1 {
+        return Err(Fail::from("another second caller"));
+    }
+    let mut all = Vec::new(alloc);
+    all.push(first)?;
+    all.push(second)?;
+    Ok((one, other, desk.close(all)))
 }
 
 #[test]

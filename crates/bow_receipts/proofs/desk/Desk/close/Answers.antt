@@ -10,8 +10,8 @@ use Rattle.bow_receipts.proofs.desk.Desk.close.Goals as goal
 pub close-requires-clause-lanes : goal.close-requires-clause-lanes
 close-requires-clause-lanes g c =
     let are = c.seats_of-lanes.ensures in
-    let k = c.into_service-service.ensures in
-    let table = c.self.invariant.0 in (
+    let k = c.into_parts-service.ensures.serves in
+    let table = c.self.invariant in (
       are.many ∙ c.requires.all ∙ sym k.lanes_are ∙ ap lanes_of (sym table),
       λ i s at.
           let p = seat_pass g.J.Naming.table g.J.Naming.sizes.block_size g.J.Naming.callers g.J.Naming.allowed c.args.passes.items c.seats_of-lanes.result.items are c.requires.order i s at in
@@ -20,14 +20,14 @@ close-requires-clause-lanes g c =
 
 pub close-requires-clause-servers : goal.close-requires-clause-servers
 close-requires-clause-servers g c =
-    let k = c.into_service-service.ensures in
-    let server = c.into_service-service.result.server in
-    let items : c.push_reserved.new.self.items ≡ server ∷ [] = c.push_reserved.ensures.items ∙ ap (λ (xs : List (Sitting Op Answer)). xs ++ server ∷ []) c.self.invariant.3 in
+    let k = c.into_parts-service.ensures.serves in
+    let server = c.into_parts-service.result.service.server in
+    let items : c.push_reserved.new.self.items ≡ server ∷ [] = c.push_reserved.ensures.items ∙ ap (λ (xs : List (Sitting Op Answer)). xs ++ server ∷ []) c.into_parts-service.ensures.room.no_servers in
     let long = ap (λ (xs : List (Sitting Op Answer)). length xs) items in (
       omega (arith, long),
       λ i s at.
           let one = in_one c.push_reserved.new.self.items server s i items at in (
-            ap (λ (z : Sitting Op Answer). z.table) (sym one.1) ∙ k.table_is ∙ sym c.self.invariant.0,
+            ap (λ (z : Sitting Op Answer). z.table) (sym one.1) ∙ k.table_is ∙ sym c.self.invariant,
             ap (λ (z : Sitting Op Answer). z.view.speaks) (sym one.1) ∙ (k.kept).speaks ∙ ap (λ j. j ∷ []) (sym one.0),
             ap (λ (z : Sitting Op Answer). z.view.servers) (sym one.1) ∙ (k.kept).servers ∙ sym long,
           ),
@@ -39,13 +39,13 @@ close-requires-clause-free g c = inl (λ i s at.
 
 pub returns : goal.returns
 returns g c =
-    let k = c.into_service-service.ensures in
-    let s = c.into_service-service.result in
+    let k = c.into_parts-service.ensures.serves in
+    let s = c.into_parts-service.result.service in
     let server = s.server in
     let close = c.close.ensures in
-    let items : c.push_reserved.new.self.items ≡ server ∷ [] = c.push_reserved.ensures.items ∙ ap (λ (xs : List (Sitting Op Answer)). xs ++ server ∷ []) c.self.invariant.3 in
+    let items : c.push_reserved.new.self.items ≡ server ∷ [] = c.push_reserved.ensures.items ∙ ap (λ (xs : List (Sitting Op Answer)). xs ++ server ∷ []) c.into_parts-service.ensures.room.no_servers in
     let free : server.view.jobs ≡ [] = close.free 0 server (ap (λ (xs : List (Sitting Op Answer)). get_elem? xs 0) items) in
-    let callers : lanes_of c.self.inside.tags ≡ g.J.Naming.callers = ap lanes_of c.self.invariant.0 ∙ k.lanes_are in
+    let callers : lanes_of c.self.inside.tags ≡ g.J.Naming.callers = ap lanes_of c.self.invariant ∙ k.lanes_are in
     let own = own_of g.J.Naming.table g.J.Naming.sizes.block_size g.J.Naming.callers g.J.Naming.allowed server.view.given c.args.passes.items c.seats_of-lanes.result.items c.close.result.items server
     c.seats_of-lanes.ensures refl (close.words ∙ callers) c.requires.all c.requires.order close.last
     (subst (AllGiven c.seats_of-lanes.result.items) items close.got) (subst (AnsweredOnce c.close.result.items) items close.once) (k.kept).once (k.kept).numbers in

@@ -8,8 +8,8 @@ use Rattle.bow_receipts.proofs.Beginning.{serves_first}
 use Rattle.bow_receipts.proofs.Passing.{only_one}
 use Rattle.bow_receipts.proofs.desk.Desk.set_up.Goals as goal
 
-pub new-requires : goal.new-requires
-new-requires g c =
+pub new-requires-clause-serves : goal.new-requires-clause-serves
+new-requires-clause-serves g c =
     let seen = c.callers.view_is in
     let they = c.callers.invariant in
     let calls = c.callers.inside.calls.items in
