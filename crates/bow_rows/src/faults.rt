@@ -95,7 +95,7 @@ fn each_call_of_the_disk_fails_once(rt: HostRuntime) -> Result<(), Fail> {
     for call in 1..whole.calls.min(100) + 1 {
         for mode in [FailMode::Lost, FailMode::Kept] {
             let ran = failing(&rt, alloc, &logged, (call, mode), &["restore"], "")?;
-            assert!(rt; ran.status == 6 && ran.told.as_slice() == b"disk fault\n");
+            assert!(rt; ran.status == 6 && ran.told.as_slice() == b"disk fault\n".as_slice());
             let again = run(&rt, alloc, &phone_with(ran.image), &["restore"], "")?;
             assert!(rt; again.status == 0 && is_back(&again.image, 13));
         }
@@ -117,7 +117,7 @@ fn each_call_of_the_keeper_and_of_the_ends_fails_once(rt: HostRuntime) -> Result
     let logged = one_log(alloc)?;
     for call in 1..4u64 {
         let ran = run(&rt, alloc, &last_attempt(alloc, call)?, &["boot"], "")?;
-        assert!(rt; ran.status == 7 && ran.told.as_slice() == b"keeper fault\n");
+        assert!(rt; ran.status == 7 && ran.told.as_slice() == b"keeper fault\n".as_slice());
         if call < 3 {
             assert!(rt; keeps(&ran.kept, b"1") && ran.image.as_slice() == logged.as_slice());
         } else {
@@ -125,7 +125,9 @@ fn each_call_of_the_keeper_and_of_the_ends_fails_once(rt: HostRuntime) -> Result
             let mut phone = phone_with(ran.image);
             phone.kept = ran.kept;
             let again = run(&rt, alloc, &phone, &["boot"], "")?;
-            assert!(rt; again.told.as_slice() == b"rolled back\n" && again.kept.is_none());
+            assert!(rt;
+                again.told.as_slice() == b"rolled back\n".as_slice() && again.kept.is_none()
+            );
         }
     }
     let mut phone = phone_with(patterns(alloc, 16)?);
@@ -133,7 +135,7 @@ fn each_call_of_the_keeper_and_of_the_ends_fails_once(rt: HostRuntime) -> Result
     let script = "discard 8 8\nprepare\nwrite 1 1 5\ncommit\n";
     let ran = run(&rt, alloc, &phone, &["play", "0"], script)?;
     let told = b"0.0 done\n0.1 done\n0.2 wrote 1\n0.2 done\n0.3 done\nkeeper fault\n";
-    assert!(rt; ran.status == 7 && ran.told.as_slice() == told);
+    assert!(rt; ran.status == 7 && ran.told.as_slice() == told.as_slice());
     phone = phone_with(patterns(alloc, 16)?);
     phone.sink_fails = Some(1);
     let script = "write 15 1 7\nread 15 1\nwrite 16 1 7\nread 15 2\n";
@@ -142,6 +144,8 @@ fn each_call_of_the_keeper_and_of_the_ends_fails_once(rt: HostRuntime) -> Result
     phone = phone_with(patterns(alloc, 16)?);
     phone.source_fails = Some(1);
     let ran = run(&rt, alloc, &phone, &["play", "0"], script)?;
-    assert!(rt; ran.status == 4 && ran.told.as_slice() == b"source fault\n" && ran.calls == 0);
+    assert!(rt;
+        ran.status == 4 && ran.told.as_slice() == b"source fault\n".as_slice() && ran.calls == 0
+    );
     Ok(())
 }
