@@ -4,5 +4,5 @@ use Rattle.bow_tool.proofs.tools.manage.Goals as goal
 
 pub returns : goal.returns
 returns g c =
-    let call = call_of (source_view g.S.Source.left g.S.Source.faults) (disk_view g.D.Disk.stated g.D.Disk.content g.D.Disk.moment g.D.Disk.left_since g.D.Disk.faults) (keeper_view g.K.Keeper.kept g.K.Keeper.moment g.K.Keeper.left_since g.K.Keeper.faults) c.args.source.now c.obey-outcome.new.source c.args.disk c.obey-outcome.result.1 c.args.keeper c.obey-outcome.result.2 in
+    let call = call_of (source_view g.S.Source.left g.S.Source.gave g.S.Source.ended g.S.Source.faults) (disk_view g.D.Disk.stated g.D.Disk.content g.D.Disk.moment g.D.Disk.left_since g.D.Disk.faults) (keeper_view g.K.Keeper.kept g.K.Keeper.moment g.K.Keeper.left_since g.K.Keeper.faults) c.args.source.now c.obey-outcome.new.source c.args.disk c.obey-outcome.result.1 c.args.keeper c.obey-outcome.result.2 in
     outcome_told c.fault_law.ensures.not_sound c.args.command call c.obey-outcome.result.0 _ _ _ _ _ c.obey-outcome.ensures c.put_outcome-status.ensures
