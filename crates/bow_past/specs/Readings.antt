@@ -12,8 +12,8 @@ use Rattle.bow_chain.specs.Places.{pass}
 use Rattle.bow_past.specs.declared.ended.Ended.{Ended}
 use Rattle.bow_past.specs.declared.ended.Ended.TheVariants.{Got, Failed, Strange}
 
--- A reader: the sizes of the device, the blocks that it is to read, for each sequence the older log that it keeps, if it
--- keeps it, and what became of the first blocks, in their order.
+-- A reader: the sizes of the device, the blocks that it is to read, for each sequence the older log that it keeps, if
+-- it keeps it, and what became of the first blocks, in their order.
 pub record Reading : Type 0 where
   pub geometry : Geometry
   pub extent : Extent

@@ -41,7 +41,8 @@ pub record LooksForLog {D : Type 0} (stated : D → Option Geometry) (content : 
 
 -- No log is missing, and the next block, which is on the device, was read at its place by all logs.
 pub record GetsBlock {D : Type 0} (stated : D → Option Geometry) (content : D → Option Content) (moment : D → ℕ)
-    (left : D → ℕ → List (List ℕ) → Type 0) (faults : D → ℕ) (p : Reading) (bytes : List ℕ) (old new : Run D) : Type 0 where
+    (left : D → ℕ → List (List ℕ) → Type 0) (faults : D → ℕ) (p : Reading) (bytes : List ℕ)
+    (old new : Run D) : Type 0 where
   pub log : Generation
   pub memory : old.core.memory.log ≡ Some log
   pub on : next_block p < p.geometry.blocks
