@@ -2,7 +2,7 @@
 use Rattle.std.proofs.Common.{ℕ, ◌≤◌, ◌≡◌, List, Option, None, Some, arith, refl, sym, ap, ◌∙◌, subst}
 use Rattle.std.specs.Prelude.{MatchOption}
 use Rattle.bow_units.specs.declared.sizes.Geometry.{Geometry}
-use Rattle.bow_disk.specs.Disk.{Content, Goes, Same, Holds, TimeGoes, KeepsSizes, IsCrash}
+use Rattle.bow_disk.specs.Disk.{Content, Goes, Same, ReadsAs, TimeGoes, KeepsSizes, IsCrash}
 use Rattle.bow_chain.specs.Contents.{contents_of}
 use Rattle.bow_disk.specs.Moments.{AddsNoCut}
 use Rattle.bow_disk.proofs.Moments.{no_cut_none, no_cut_read, no_cut_then}
@@ -48,7 +48,7 @@ module _ {T : Type 0} (g : Geometry) (stated : T → Option Geometry) (content :
   quiet_read a b d q keeps goes time counts more = quiet_then a b d q (keeps_stated g (stated b) (stated d) q.sizes keeps) goes (no_cut_read content moment since b d goes time counts) more
 
 -- what was read is what the disk held at first
-pub read_gives : (first now : Option Content) (at : ℕ) (v : List ℕ) → Goes Same first now → MatchOption now (Unit {0}) (Holds at v) → (c : Content) → first ≡ Some c → contents_of c.now at ≡ v
+pub read_gives : (first now : Option Content) (at : ℕ) (v : List ℕ) → Goes Same first now → MatchOption now (Unit {0}) (ReadsAs at v) → (c : Content) → first ≡ Some c → contents_of c.now at ≡ v
 read_gives None now at v goes holds c is = absurd cc
 read_gives (Some a) None at v goes holds c is = absurd goes
 read_gives (Some a) (Some b) at v goes holds c is =
@@ -63,5 +63,5 @@ as_first P (Some a) (Some b) goes all c is =
     let same : a ≡ c = cc in
     subst (λ (x : Content). P x.now) same (subst P goes.0 (all b refl))
 
-pub read_first : (first : Option Content) (at : ℕ) (v : List ℕ) → MatchOption first (Unit {0}) (Holds at v) → (c : Content) → first ≡ Some c → contents_of c.now at ≡ v
+pub read_first : (first : Option Content) (at : ℕ) (v : List ℕ) → MatchOption first (Unit {0}) (ReadsAs at v) → (c : Content) → first ≡ Some c → contents_of c.now at ≡ v
 read_first first at v holds c is = read_gives first first at v (same_refl first) holds c is

@@ -2,7 +2,7 @@
 ghost use Rattle.std.specs.Prelude.{◌≡◌, ◌<◌, length, map, Some, OnOk, MatchOption};
 ghost use Rattle.bow_units.specs.Causes.{HasCause};
 ghost use Rattle.bow_log.specs.Generations.{fields_of};
-ghost use Rattle.bow_disk.specs.Disk.{Goes, Same, Holds};
+ghost use Rattle.bow_disk.specs.Disk.{Goes, Same, ReadsAs};
 ghost use Rattle.bow_chain.specs.Contents.{OfImage};
 ghost use Rattle.bow_chain.specs.Places.{base};
 ghost use Rattle.bow_chain.specs.Kept.{kept};

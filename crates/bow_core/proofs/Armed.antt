@@ -19,7 +19,8 @@ use Rattle.bow_machine.specs.MemoryLaws.{CanHaveIt}
 use Rattle.bow_machine.specs.MemoryIsSound.{PicksHeld}
 use Rattle.bow_machine.specs.Calls.{Succeeded}
 use Rattle.bow_machine.specs.Steps.{first_log, copy_entry, log_or_blank, act_step, call_in_hand, call_of, step_of}
-use Rattle.bow_machine.specs.Tasks.{Acts, Command, command_task, spelling}
+use Rattle.bow_machine.specs.Tasks.{Acts, command_task, spelling}
+use Rattle.bow_machine.specs.declared.turns.Turn.TheVariants.{Command}
 use Rattle.bow_machine.proofs.SoundSteps.{step_keeps_sound}
 use Rattle.bow_core.specs.Steps.{unknown}
 use Rattle.bow_core.specs.Held.{hand_of, prepare_of}

@@ -19,7 +19,8 @@ use Rattle.bow_machine.specs.Requests.{Request, request_of}
 use Rattle.bow_machine.specs.Memory.{Memory, Batch, Empty, Batching, is_kind_current, may_be_written, reserved}
 use Rattle.bow_machine.specs.MemoryIsSound.{MemoryIsSound, LogIsHeld, LogIsSound}
 use Rattle.bow_machine.specs.Steps.{extent_of, log_of_memory, log_or_blank}
-use Rattle.bow_machine.specs.Tasks.{Task, Acts, Answers, Worker, task_of, worker_task, serve, formed, formed_for, head, batch_for, on_picked, copy_onto, alike_from, is_source, spelling, with_batch, without_picked}
+use Rattle.bow_machine.specs.Tasks.{Task, Acts, Answers, task_of, worker_task, serve, formed, formed_for, head, batch_for, on_picked, copy_onto, alike_from, is_source, spelling, with_batch, without_picked}
+use Rattle.bow_machine.specs.declared.turns.Turn.TheVariants.{Worker}
 use Rattle.bow_machine.proofs.BatchStands.{working}
 use Rattle.bow_machine.proofs.FormedBatches.{kept_kinds, is_one, alike_most, alike_some}
 use Rattle.bow_machine.proofs.FormedHeads.{IsHead, head_is}

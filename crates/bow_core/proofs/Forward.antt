@@ -15,7 +15,9 @@ use Rattle.bow_guard.proofs.Joined.{crashes_are_cuts}
 use Rattle.bow_queue.specs.declared.tickets.Ticket.{Ticket}
 use Rattle.bow_machine.specs.Memory.{Memory}
 use Rattle.bow_machine.specs.Calls.{Failed, DoesIt}
-use Rattle.bow_machine.specs.Tasks.{Turn as MachineTurn, Map, Command, task_of}
+use Rattle.bow_machine.specs.Tasks.{task_of}
+use Rattle.bow_machine.specs.declared.turns.Turn.{Turn as MachineTurn}
+use Rattle.bow_machine.specs.declared.turns.Turn.TheVariants.{Map, Command}
 use Rattle.bow_machine.specs.Steps.{Answered, call_of, step_of}
 use Rattle.bow_machine.specs.Forward.{GoesForward}
 use Rattle.bow_machine.proofs.Orders.{disk_by_reply}
@@ -25,9 +27,9 @@ use Rattle.bow_machine.specs.Requests.{Request}
 use Rattle.bow_core.specs.Calls.{DoesOne, Passes, calls_in}
 use Rattle.bow_core.specs.Standing.{StandsOver, StandsIn}
 use Rattle.bow_core.specs.Steps.{IsStep, unknown, call_in}
-use Rattle.bow_core.specs.Turns.{turn_of, told_of}
+use Rattle.bow_core.specs.Turns.{told_of}
 use Rattle.bow_core.specs.Views.{View, IsOpened}
-use Rattle.bow_core.specs.declared.turns.Turn.{Turn}
+use Rattle.bow_machine.specs.declared.turns.Turn.{Turn}
 use Rattle.bow_core.specs.declared.turns.Step.{Step as OwnStep}
 use Rattle.bow_core.specs.Further.{LedIn, LedOver}
 use Rattle.bow_core.specs.Forward.{ForwardOver, IsForward, StaysForward}
@@ -58,20 +60,20 @@ module _ {D : Type 0} (stated : D → Option Geometry) (content : D → Option C
   -- what the machine's step does on the disks that tell their contents
   does : (c d : Content) → content old.disk ≡ Some c → content new.disk ≡ Some d → Goes (DoesOne (call_in old turn) step.reply) (Some c) (Some d)
       → DoesIt g (call_in old turn) step.reply (contents_of c.now) (candidates_of c.candidates) (contents_of d.now) (candidates_of d.candidates)
-  does c d is at goes = does_it g c d (shaped old.disk c is g opened.sizes) (shaped new.disk d at g step.made.sizes) (call_in old turn) step.reply (calls_are_on_device g m (turn_of turn) opened.sound) goes
+  does c d is at goes = does_it g c d (shaped old.disk c is g opened.sizes) (shaped new.disk d at g step.made.sizes) (call_in old turn) step.reply (calls_are_on_device g m turn opened.sound) goes
 
   -- its memory is the device's
-  same_memory : (c : Content) → (step_of g (contents_of c.now) m (task_of g m (turn_of turn)) step.reply).memory ≡ new.memory
-  same_memory c = (disk_by_reply g m (turn_of turn) step.reply (contents_of c.now) unknown).0 ∙ sym step.memory
+  same_memory : (c : Content) → (step_of g (contents_of c.now) m (task_of g m turn) step.reply).memory ≡ new.memory
+  same_memory c = (disk_by_reply g m turn step.reply (contents_of c.now) unknown).0 ∙ sym step.memory
 
   -- the device goes forward where the machine does
-  new_goes : (f : Flat) (c d : Content) → content new.disk ≡ Some d → GoesForward g (step_of g (contents_of c.now) m (task_of g m (turn_of turn)) step.reply).memory (contents_of d.now) (candidates_of d.candidates) f → IsForward content new f
+  new_goes : (f : Flat) (c d : Content) → content new.disk ≡ Some d → GoesForward g (step_of g (contents_of c.now) m (task_of g m turn) step.reply).memory (contents_of d.now) (candidates_of d.candidates) f → IsForward content new f
   new_goes f c d at goes =
       let own = subst (λ h. GoesForward h new.memory (contents_of d.now) (candidates_of d.candidates) f) (sym step.geometry) (subst (λ n. GoesForward g n (contents_of d.now) (candidates_of d.candidates) f) (same_memory c) goes) in
       goes_over stated content shaped new f d (subst (λ h. stated new.disk ≡ Some h) (sym step.geometry) step.made.sizes) at own
 
   -- A flush was answered done in Checkpoint.
-  pub step_flushes : (f : Flat) (asked t : Ticket) → StandsIn content old f → LedIn content old f → m.phase ≡ Checkpoint → turn_of turn ≡ Map asked → told_of tells_so ≡ Answered t Flush Done → IsForward content new (after g.blocks Flushes f)
+  pub step_flushes : (f : Flat) (asked t : Ticket) → StandsIn content old f → LedIn content old f → m.phase ≡ Checkpoint → turn ≡ Map asked → told_of tells_so ≡ Answered t Flush Done → IsForward content new (after g.blocks Flushes f)
   step_flushes f asked t stands led phase whose told = go (content old.disk) refl (content new.disk) refl step.made.disk stands led
     where
       go : (o : Option Content) → content old.disk ≡ o → (n : Option Content) → content new.disk ≡ n → Goes (DoesOne (call_in old turn) step.reply) o n → StandsOver g m o f → LedOver g m o f → IsForward content new (after g.blocks Flushes f)
@@ -86,17 +88,17 @@ module _ {D : Type 0} (stated : D → Option Geometry) (content : D → Option C
           → (step_of g (contents_of c.now) m (task_of g m x) step.reply).told ≡ Answered t Flush Done
           → GoesForward g (step_of g (contents_of c.now) m (task_of g m x) step.reply).memory (contents_of d.now) (candidates_of d.candidates) (after g.blocks Flushes f)) (sym is)
           (λ does told. flush_goes_forward g m asked t step.reply (contents_of c.now) (contents_of d.now) (candidates_of c.candidates) (candidates_of d.candidates) f stands led phase does told) in
-          new_goes (after g.blocks Flushes f) c d at (flushed (turn_of turn) whose (does c d is at goes) ((disk_by_reply g m (turn_of turn) step.reply (contents_of c.now) unknown).1 ∙ sym step.told ∙ told))
+          new_goes (after g.blocks Flushes f) c d at (flushed turn whose (does c d is at goes) ((disk_by_reply g m turn step.reply (contents_of c.now) unknown).1 ∙ sym step.told ∙ told))
 
   -- A turn of the commands.
-  pub step_forward : (f : Flat) → IsForward content old f → turn_of turn ≡ Command → StaysForward content moment left old tells_so new f
+  pub step_forward : (f : Flat) → IsForward content old f → turn ≡ Command → StaysForward content moment left old tells_so new f
   step_forward f forward whose = go (content old.disk) refl (content new.disk) refl step.made.disk forward.over
     where
       go : (o : Option Content) → content old.disk ≡ o → (n : Option Content) → content new.disk ≡ n → Goes (DoesOne (call_in old turn) step.reply) o n → ForwardOver g m o f → StaysForward content moment left old tells_so new f
       go None is n at goes over = absurd over
       go (Some c) is None at goes over = absurd goes
       go (Some c) is (Some d) at goes over = record {
-        on = λ quiet. new_goes f c d at (on (turn_of turn) whose (no_failure stated content moment left faults old turn tells_so new opened step quiet) (does c d is at goes));
+        on = λ quiet. new_goes f c d at (on turn whose (no_failure stated content moment left faults old turn tells_so new opened step quiet) (does c d is at goes));
         images = λ e told image crash. subst (λ h. Forwardable h f (contents_of image)) (sym step.geometry) (image_goes image (subst (λ (x : Content). IsCrash x.candidates image) (some_inj (sym told ∙ at)) crash));
         cuts = since_then_so (λ image. Forwardable g f (contents_of image)) (calls_in (call_in old turn)) (moment old.disk) (moment new.disk) (left old.disk) (left new.disk) d
             (subst (λ o. Passes (calls_in (call_in old turn)) o (moment old.disk) (moment new.disk) (left old.disk) (left new.disk)) at step.made.time) image_goes;

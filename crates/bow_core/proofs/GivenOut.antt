@@ -24,9 +24,8 @@ use Rattle.bow_machine.proofs.SoundOpenings.{admit_keeps_sound}
 use Rattle.bow_core.specs.Held.{Held}
 use Rattle.bow_core.specs.Views.{View, view_of, IsGivenOut, IsOpened}
 use Rattle.bow_core.specs.Steps.{IsStep, done_by, unknown}
-use Rattle.bow_core.specs.declared.turns.Turn.{Turn as OwnTurn}
+use Rattle.bow_machine.specs.declared.turns.Turn.{Turn as OwnTurn}
 use Rattle.bow_core.specs.declared.turns.Step.{Step as OwnStep}
-use Rattle.bow_core.specs.Turns.{turn_of}
 use Rattle.bow_core.proofs.Replies.{can_have}
 
 each_with : (P : Request → Type 0) (r : Request) (requests : List Request) → P r → Each P requests → Each P (with_request r requests)
@@ -112,9 +111,9 @@ module _ (g : Geometry) (m : Memory) (n : ℕ) (each : Each (IsGivenOut n) m.req
 pub turn_opened : {D : Type 0} (stated : D → Option Geometry) (content : D → Option Content) (moment : D → ℕ) (left : D → ℕ → List (List ℕ) → Type 0) (faults : D → ℕ)
     (old : View D) (turn : OwnTurn) (tells : OwnStep) (new : View D) → IsOpened stated old → IsStep stated content moment left faults old turn tells new → IsOpened stated new
 turn_opened stated content moment left faults old turn tells new opened step =
-    let sound : MemoryIsSound old.geometry new.memory = subst (MemoryIsSound old.geometry) (sym step.memory) (step_keeps_sound old.geometry old.memory (turn_of turn) step.reply unknown opened.sound (can_have old.geometry _ step.reply step.made.may)) in
+    let sound : MemoryIsSound old.geometry new.memory = subst (MemoryIsSound old.geometry) (sym step.memory) (step_keeps_sound old.geometry old.memory turn step.reply unknown opened.sound (can_have old.geometry _ step.reply step.made.may)) in
     let given : Each (IsGivenOut old.admitted) new.memory.requests = subst (λ (m : Memory). Each (IsGivenOut old.admitted) m.requests) (sym step.memory)
-    (step_given old.geometry old.memory old.admitted opened.given_out (task_of old.geometry old.memory (turn_of turn)) step.reply (turn_sound old.geometry old.memory (turn_of turn) opened.sound)) in
+    (step_given old.geometry old.memory old.admitted opened.given_out (task_of old.geometry old.memory turn) step.reply (turn_sound old.geometry old.memory turn opened.sound)) in
     record {
       sizes = step.made.sizes ∙ ap (λ x. Some x) (sym step.geometry);
       sound = subst (λ x. MemoryIsSound x new.memory) (sym step.geometry) sound;

@@ -28,9 +28,9 @@ use Rattle.bow_machine.proofs.Cuts.{machine_cut}
 use Rattle.bow_core.specs.Calls.{DoesOne, Passes, calls_in, HasFault, StaysWithout, Counted}
 use Rattle.bow_core.specs.Standing.{StandsOver, StandsIn, Leads, seen, step_seen, state_after}
 use Rattle.bow_core.specs.Steps.{IsStep, HasFailed, FailureIsTold, done_by, unknown, task_in, call_in}
-use Rattle.bow_core.specs.Turns.{turn_of, told_of}
+use Rattle.bow_core.specs.Turns.{told_of}
 use Rattle.bow_core.specs.Views.{View, IsOpened}
-use Rattle.bow_core.specs.declared.turns.Turn.{Turn}
+use Rattle.bow_machine.specs.declared.turns.Turn.{Turn}
 use Rattle.bow_core.specs.declared.turns.Step.{Step as OwnStep}
 use Rattle.bow_machine.specs.Ahead.{IsLed}
 use Rattle.bow_machine.proofs.Ahead.{led_keeps}
@@ -151,7 +151,7 @@ failure_told stated content moment left faults old turn tells_so new opened made
     let g = old.geometry in
     let m = old.memory in
     let task = task_in old turn in
-    let row = faults_are_told g m (turn_of turn) made.reply unknown opened.sound (can_have g _ made.reply made.made.may) in
+    let row = faults_are_told g m turn made.reply unknown opened.sound (can_have g _ made.reply made.made.may) in
     let both = failed_told m.requests (served_by task) (call_of g m task) made.reply (done_by g m task made.reply).told row in
     (λ has. ap tells_fault made.told ∙ both.0 has, λ is. both.1 (sym (ap tells_fault made.told) ∙ is))
 
@@ -175,23 +175,23 @@ module _ {D : Type 0} (stated : D → Option Geometry) (content : D → Option C
   pub step_cause : tells_fault (told_of tells_so) ≡ true → Rose (faults old.disk) (faults new.disk)
   step_cause is =
       let task = task_in old turn in
-      let row = faults_are_told g m (turn_of turn) step.reply unknown opened.sound (can_have g _ step.reply step.made.may) in
+      let row = faults_are_told g m turn step.reply unknown opened.sound (can_have g _ step.reply step.made.may) in
       fault_cause m.requests (served_by task) (call_of g m task) step.reply (done_by g m task step.reply).told (faults old.disk) (faults new.disk) row step.made.cause (ap tells_fault (sym step.told) ∙ is)
 
   -- where no fault is told, no call failed
   pub no_failure : tells_fault (told_of tells_so) ≡ false → step.reply ≡ Failed → call_of g m (task_in old turn) ≡ None
   no_failure quiet =
       let task = task_in old turn in
-      let row = faults_are_told g m (turn_of turn) step.reply unknown opened.sound (can_have g _ step.reply step.made.may) in
+      let row = faults_are_told g m turn step.reply unknown opened.sound (can_have g _ step.reply step.made.may) in
       unfailed m.requests (served_by task) (call_of g m task) step.reply (done_by g m task step.reply).told row (ap tells_fault (sym step.told) ∙ quiet)
 
-  pub unready_idle : is_ready g m (turn_of turn) ≡ false → told_of tells_so ≡ Idle
+  pub unready_idle : is_ready g m turn ≡ false → told_of tells_so ≡ Idle
   unready_idle unready =
-      step.told ∙ ap (λ (s : Step). s.told) ((idle_changes_nothing g m (turn_of turn) step.reply unknown opened.sound unready).1)
+      step.told ∙ ap (λ (s : Step). s.told) ((idle_changes_nothing g m turn step.reply unknown opened.sound unready).1)
 
-  pub idle_unready : told_of tells_so ≡ Idle → is_ready g m (turn_of turn) ≡ false
-  idle_unready idle = elim (cases_Bool (is_ready g m (turn_of turn))) [
-    | inl ready ↦ absurd (false≢true (sym (ap tells idle) ∙ ap tells step.told ∙ task_tells g m (task_in old turn) step.reply (ready_is_table g m (turn_of turn) opened.sound ∙ ap not ready)))
+  pub idle_unready : told_of tells_so ≡ Idle → is_ready g m turn ≡ false
+  idle_unready idle = elim (cases_Bool (is_ready g m turn)) [
+    | inl ready ↦ absurd (false≢true (sym (ap tells idle) ∙ ap tells step.told ∙ task_tells g m (task_in old turn) step.reply (ready_is_table g m turn opened.sound ∙ ap not ready)))
     | inr unready ↦ unready
   ]
 
@@ -201,7 +201,7 @@ module _ {D : Type 0} (stated : D → Option Geometry) (content : D → Option C
   pub idle_same : told_of tells_so ≡ Idle → new ≡ old
   idle_same idle =
       let unready = idle_unready idle in
-      let both = idle_changes_nothing g m (turn_of turn) step.reply unknown opened.sound unready in
+      let both = idle_changes_nothing g m turn step.reply unknown opened.sound unready in
       let memory : new.memory ≡ old.memory = step.memory ∙ ap (λ (s : Step). s.memory) both.1 in
       let disk : new.disk ≡ old.disk = subst (λ call. StaysWithout call old.disk new.disk) both.0 step.made.stays in
       let calls : new.calls ≡ old.calls = same_counted (call_in old turn) both.0 step.made.counted in
@@ -214,7 +214,7 @@ module _ {D : Type 0} (stated : D → Option Geometry) (content : D → Option C
   pub one_call : (old.calls ≤ new.calls) × (new.calls ≤ old.calls + 1)
   one_call = let few = one_at_most (call_in old turn) in let counted : Counted (calls_in (call_in old turn)) old.calls new.calls = step.made.counted in (omega (arith, counted), omega (arith, counted, few))
 
-  can : CanHaveIt g (call_of g m (task_of g m (turn_of turn))) step.reply
+  can : CanHaveIt g (call_of g m (task_of g m turn)) step.reply
   can = can_have g _ step.reply step.made.may
 
   pub step_space : (r : Request) → (told_of tells_so ≡ Answered r.ticket r.op (NoSpace r.done)) ↔ FindsNoSpace g m turn r
@@ -222,25 +222,25 @@ module _ {D : Type 0} (stated : D → Option Geometry) (content : D → Option C
       let both = finds_none g m step.reply opened.sound turn r can in
       (λ tells. both.0 (sym step.told ∙ tells), λ none. step.told ∙ both.1 none)
 
-  pub step_refuses : RefusesExactly g m (turn_of turn) tells_so
+  pub step_refuses : RefusesExactly g m turn tells_so
   step_refuses r outcome waits is =
-      let both = refused_exactly g m step.reply opened.sound r outcome waits is (turn_of turn) in
+      let both = refused_exactly g m step.reply opened.sound r outcome waits is turn in
       (λ tells. both.0 (sym step.told ∙ tells), λ refuses. step.told ∙ both.1 refuses)
 
   pub step_tied : IsTied g m new.memory
   step_tied = subst (IsTied g m) (sym step.memory) (record {
-    saved = λ b on is. saved_is_next g m (turn_of turn) step.reply unknown b opened.sound can on is;
-    touched = λ b on is. touched_is_left g m (turn_of turn) step.reply unknown b opened.sound can on is;
-    covered = λ b on covers is not. covered_stays_touched g m (turn_of turn) step.reply unknown b opened.sound can on covers is not;
-    logs = λ log next here there. logs_go_on g m (turn_of turn) step.reply unknown log next opened.sound can here there;
-    begins = λ is. checkpoint_follows g m (turn_of turn) step.reply unknown opened.sound can is;
+    saved = λ b on is. saved_is_next g m turn step.reply unknown b opened.sound can on is;
+    touched = λ b on is. touched_is_left g m turn step.reply unknown b opened.sound can on is;
+    covered = λ b on covers is not. covered_stays_touched g m turn step.reply unknown b opened.sound can on covers is not;
+    logs = λ log next here there. logs_go_on g m turn step.reply unknown log next opened.sound can here there;
+    begins = λ is. checkpoint_follows g m turn step.reply unknown opened.sound can is;
     arming = λ is. untouched is;
   })
     where
       untouched : m.phase ≡ Arming → ((done_by g m (task_in old turn) step.reply).memory.log ≡ m.log) × ((done_by g m (task_in old turn) step.reply).memory.kinds ≡ m.kinds)
       untouched is =
           let log = arming_log g m.kinds m.clean m.trimmed (reserved m.hand).count m.log (subst (λ p. LogIsHeld g m.kinds m.clean m.trimmed (reserved m.hand).count p m.log) is opened.sound.log) in
-          let stays = arming_is_untouched g m (turn_of turn) step.reply unknown log.0 opened.sound can is log.1 in
+          let stays = arming_is_untouched g m turn step.reply unknown log.0 opened.sound can is log.1 in
           (stays.1, stays.2)
 
   module _ (shaped : (d : D) (c : Content) → content d ≡ Some c → (g : Geometry) → stated d ≡ Some g → IsShaped g.block_size g.blocks c) where
@@ -253,11 +253,11 @@ module _ {D : Type 0} (stated : D → Option Geometry) (content : D → Option C
         go (Some c) is None at goes stands = absurd goes
         go (Some c) is (Some d) at goes stands =
             let sizes : stated new.disk ≡ Some g = step.made.sizes in
-            let does = does_it g c d (shaped old.disk c is g opened.sizes) (shaped new.disk d at g sizes) (call_in old turn) step.reply (calls_are_on_device g m (turn_of turn) opened.sound) goes in
-            let kept = step_keeps g m (turn_of turn) step.reply (contents_of c.now) (contents_of d.now) (candidates_of c.candidates) (candidates_of d.candidates) f stands does in
+            let does = does_it g c d (shaped old.disk c is g opened.sizes) (shaped new.disk d at g sizes) (call_in old turn) step.reply (calls_are_on_device g m turn opened.sound) goes in
+            let kept = step_keeps g m turn step.reply (contents_of c.now) (contents_of d.now) (candidates_of c.candidates) (candidates_of d.candidates) f stands does in
             let both = subst (λ (n : Contents). AllowsAll g.blocks (step_of g n m (task_in old turn) step.reply).events f
             × IsStanding g (step_of g n m (task_in old turn) step.reply).memory (contents_of d.now) (candidates_of d.candidates) (after_all g.blocks (step_of g n m (task_in old turn) step.reply).events f)) (sym (ap seen is)) kept in
-            let same = disk_by_reply g m (turn_of turn) step.reply unknown (seen (content old.disk)) in
+            let same = disk_by_reply g m turn step.reply unknown (seen (content old.disk)) in
             let after : Flat = state_after content old turn step.reply f in
             let memory : new.memory ≡ (step_seen content old turn step.reply).memory = step.memory ∙ same.0 in
             let standing : IsStanding g new.memory (contents_of d.now) (candidates_of d.candidates) after = subst (λ k. IsStanding g k (contents_of d.now) (candidates_of d.candidates) after) (sym memory) both.1 in
@@ -280,8 +280,8 @@ module _ {D : Type 0} (stated : D → Option Geometry) (content : D → Option C
         go None is n at goes stands = absurd stands
         go (Some c) is None at goes stands = absurd goes
         go (Some c) is (Some d) at goes stands =
-            let does = does_it g c d (shaped old.disk c is g opened.sizes) (shaped new.disk d at g step.made.sizes) (call_in old turn) step.reply (calls_are_on_device g m (turn_of turn) opened.sound) goes in
-            let same = disk_by_reply g m (turn_of turn) step.reply unknown (seen (content old.disk)) in
+            let does = does_it g c d (shaped old.disk c is g opened.sizes) (shaped new.disk d at g step.made.sizes) (call_in old turn) step.reply (calls_are_on_device g m turn opened.sound) goes in
+            let same = disk_by_reply g m turn step.reply unknown (seen (content old.disk)) in
             let memory : new.memory ≡ (step_seen content old turn step.reply).memory = step.memory ∙ same.0 in
             let at_now : (step_of g (contents_of c.now) m (task_in old turn) step.reply).memory ≡ new.memory = ap (λ (n : Contents). (step_of g n m (task_in old turn) step.reply).memory) (sym (ap seen is)) ∙ sym memory in
             let events = ap (λ (n : Contents). after_all g.blocks (step_of g n m (task_in old turn) step.reply).events f) (sym (ap seen is)) in
@@ -292,7 +292,7 @@ module _ {D : Type 0} (stated : D → Option Geometry) (content : D → Option C
               told = step.told ∙ same.1;
               led = λ quiet led.
                   let was = subst (λ o. LedOver g m o f) is led in
-                  let now = led_keeps g m (turn_of turn) step.reply (contents_of c.now) (contents_of d.now) (candidates_of c.candidates) (candidates_of d.candidates) f stands was (no_failure quiet) does in
+                  let now = led_keeps g m turn step.reply (contents_of c.now) (contents_of d.now) (candidates_of c.candidates) (candidates_of d.candidates) f stands was (no_failure quiet) does in
                   let own = subst (λ (n : Memory). IsLed g n (contents_of d.now) (candidates_of d.candidates) (after_all g.blocks (step_of g (contents_of c.now) m (task_in old turn) step.reply).events f)) at_now now in
                   let after = subst (λ e. IsLed g new.memory (contents_of d.now) (candidates_of d.candidates) e) events own in
                   subst (λ o. LedOver new.geometry new.memory o (state_after content old turn step.reply f)) (sym at) (subst (λ h. LedOver h new.memory (Some d) (state_after content old turn step.reply f)) (sym step.geometry) after);
@@ -300,15 +300,15 @@ module _ {D : Type 0} (stated : D → Option Geometry) (content : D → Option C
                   let was = subst (λ o. LedOver g m o one) is led in
                   let all = sound_listed g c (shaped old.disk c is g opened.sizes) f (λ image crash. sound c is image crash) in
                   let own = sound_are_led g m (contents_of c.now) (candidates_of c.candidates) one f was stands all in
-                  let kept = (step_keeps g m (turn_of turn) step.reply (contents_of c.now) (contents_of d.now) (candidates_of c.candidates) (candidates_of d.candidates) f stands does).1 in
-                  let now = led_keeps g m (turn_of turn) step.reply (contents_of c.now) (contents_of d.now) (candidates_of c.candidates) (candidates_of d.candidates) f stands own (no_failure quiet) does in
+                  let kept = (step_keeps g m turn step.reply (contents_of c.now) (contents_of d.now) (candidates_of c.candidates) (candidates_of d.candidates) f stands does).1 in
+                  let now = led_keeps g m turn step.reply (contents_of c.now) (contents_of d.now) (candidates_of c.candidates) (candidates_of d.candidates) f stands own (no_failure quiet) does in
                   subst (λ h. SoundAreAheadIn content (record new { geometry = h }) (state_after content old turn step.reply f)) (sym step.geometry)
                   (λ e told image crash sound. subst (λ s. Ahead g s (contents_of image)) events
                   (listed_ahead g d (shaped new.disk d at g step.made.sizes) (step_of g (contents_of c.now) m (task_in old turn) step.reply).memory (after_all g.blocks (step_of g (contents_of c.now) m (task_in old turn) step.reply).events f) kept now image
                   (subst (λ (x : Content). IsCrash x.candidates image) (some_inj (sym told ∙ at)) crash)));
               older = λ log next behind phase here there stood.
                   let was = subst (λ o. BehindOver g o log behind) is stood in
-                  let now = older_logs_stay g m (turn_of turn) step.reply (contents_of c.now) (contents_of d.now) (candidates_of c.candidates) (candidates_of d.candidates) f log next behind stands phase here was does (ap (λ (n : Memory). n.log) at_now ∙ there) in
+                  let now = older_logs_stay g m turn step.reply (contents_of c.now) (contents_of d.now) (candidates_of c.candidates) (candidates_of d.candidates) f log next behind stands phase here was does (ap (λ (n : Memory). n.log) at_now ∙ there) in
                   let own = subst (λ h. BehindOver h (Some d) next behind ⊎ BehindOver h (Some d) next (log ∷ behind)) (sym step.geometry) now in
                   subst (λ o. BehindOver new.geometry o next behind ⊎ BehindOver new.geometry o next (log ∷ behind)) (sym at) own;
             }

@@ -22,7 +22,8 @@ use Rattle.bow_machine.specs.Memory.{Memory, place_of, is_direct, may_be_written
 use Rattle.bow_machine.specs.MemoryIsSound.{MemoryIsSound, LogIsHeld, IsWaiting, IsTransfer, IsAdmissible}
 use Rattle.bow_machine.specs.MemoryLaws.{IsOnDevice}
 use Rattle.bow_machine.specs.Steps.{Step, payload_of, extent_of, call_of, next_block, answered, answered_for, kinds_discarded}
-use Rattle.bow_machine.specs.Tasks.{Task, Waits, Answers, Map, task_of, map_task, WritesBlock, ReadsBlock, FlushesFor, DiscardsFor}
+use Rattle.bow_machine.specs.Tasks.{Task, Waits, Answers, task_of, map_task, WritesBlock, ReadsBlock, FlushesFor, DiscardsFor}
+use Rattle.bow_machine.specs.declared.turns.Turn.TheVariants.{Map}
 use Rattle.bow_machine.proofs.RequestLists.{found_ticket}
 use Rattle.bow_machine.proofs.SoundLists.{found_waiting}
 use Rattle.bow_machine.proofs.SoundTasks.{TaskIsSound, WritesNext, ReadsNext, map_sound}

@@ -16,7 +16,7 @@ use Rattle.bow_machine.specs.Memory.{Memory}
 use Rattle.bow_machine.specs.Calls.{Call, ReadCall, WriteCall, FlushCall, Reply, Failed, Succeeded, Gave}
 use Rattle.bow_machine.specs.Laws.{opened}
 use Rattle.bow_machine.specs.Standing.{IsStanding, HasBlocks}
-use Rattle.bow_machine.specs.Tasks.{Map}
+use Rattle.bow_machine.specs.declared.turns.Turn.TheVariants.{Map}
 use Rattle.bow_machine.specs.Ahead.{IsLed}
 use Rattle.bow_machine.proofs.Ahead.{admit_is_led, opening_is_led, led_keeps}
 use Rattle.bow_core.specs.Further.{LedOver}

@@ -24,7 +24,8 @@ use Rattle.bow_machine.specs.MemoryIsSound.{MemoryIsSound}
 use Rattle.bow_machine.specs.Requests.{Request, request_of, is_reserved, unsettled, refusal, first_of}
 use Rattle.bow_machine.specs.Steps.{Told, Answered}
 use Rattle.bow_machine.specs.Tasks.{Task, Waits, Answers, WritesBlock, ReadsBlock, FlushesFor, DiscardsFor, Acts, unless_refused, unless_command, is_waiting, task_for, map_task, head, spelling, batch_for, with_batch, copied_from, copy_onto, on_picked, formed, formed_for, serve, worker_task, prepare_on, without_picked, taken, take_first, command_task, task_of}
-use Rattle.bow_machine.specs.Tasks.{Turn, Map, Worker, Command}
+use Rattle.bow_machine.specs.declared.turns.Turn.{Turn}
+use Rattle.bow_machine.specs.declared.turns.Turn.TheVariants.{Map, Worker, Command}
 use Rattle.bow_machine.proofs.MappedTests.{magic_is, is_magic}
 use Rattle.bow_machine.proofs.RequestLists.{found_ticket, find_passes}
 use Rattle.bow_machine.proofs.SoundLists.{own_tickets}

@@ -16,7 +16,8 @@ use Rattle.bow_queue.specs.declared.tickets.Ticket.{Ticket}
 use Rattle.bow_machine.specs.Requests.{Request, request_of, is_reserved, unsettled, refusal}
 use Rattle.bow_machine.specs.Memory.{Memory, Empty, Committing, FlushesAll, has_command, is_direct}
 use Rattle.bow_machine.specs.Calls.{Reply, Failed, Succeeded, Gave}
-use Rattle.bow_machine.specs.Tasks.{Worker, Command, Task, Waits, Answers, WritesBlock, ReadsBlock, FlushesFor, DiscardsFor, Acts, task_of, task_for, map_task, take_first, taken, command_task, worker_task, first_of, is_waiting, unless_refused, unless_command}
+use Rattle.bow_machine.specs.Tasks.{Task, Waits, Answers, WritesBlock, ReadsBlock, FlushesFor, DiscardsFor, Acts, task_of, task_for, map_task, take_first, taken, command_task, worker_task, first_of, is_waiting, unless_refused, unless_command}
+use Rattle.bow_machine.specs.declared.turns.Turn.TheVariants.{Worker, Command}
 use Rattle.bow_machine.specs.Steps.{Told, Answered, call_of, extent_of}
 use Rattle.bow_machine.specs.MemoryIsSound.{IsWaiting, MemoryIsSound}
 use Rattle.bow_machine.specs.MemoryLaws.{CanHaveIt, HasNoBlock, HasNoTwo}
@@ -26,9 +27,8 @@ use Rattle.bow_machine.proofs.SoundSpace.{no_space_is_exact, prepare_space_is_ex
 use Rattle.bow_machine.proofs.SoundTold.{steps_tell_so}
 use Rattle.bow_core.specs.Room.{FindsNoSpace}
 use Rattle.bow_core.specs.Steps.{done_by, unknown}
-use Rattle.bow_core.specs.Turns.{turn_of}
-use Rattle.bow_core.specs.declared.turns.Turn.{Turn}
-use Rattle.bow_core.specs.declared.turns.Turn.TheVariants as turns
+use Rattle.bow_machine.specs.declared.turns.Turn.{Turn}
+use Rattle.bow_machine.specs.declared.turns.Turn.TheVariants as turns
 use Rattle.bow_core.proofs.Telling.{acts_tell}
 
 -- it tells of no space
@@ -190,15 +190,15 @@ module _ (g : Geometry) (m : Memory) (reply : Reply) (s : MemoryIsSound g m) whe
   none_done : (t : Ticket) (q : Request) → request_of t m.requests ≡ Some q → q.op ≡ Prepare → q.done ≡ 0
   none_done t q found is = done_is q (find_has (IsWaiting g) _ m.requests q s.requests found) is
 
-  module _ (turn : Turn) (can : CanHaveIt g (call_of g m (task_of g m (turn_of turn))) reply) (r : Request) where
+  module _ (turn : Turn) (can : CanHaveIt g (call_of g m (task_of g m turn)) reply) (r : Request) where
     abbrev TellsNone : Type 0
-    TellsNone = (done_by g m (task_of g m (turn_of turn)) reply).told ≡ Answered r.ticket r.op (outcomes.NoSpace r.done)
+    TellsNone = (done_by g m (task_of g m turn) reply).told ≡ Answered r.ticket r.op (outcomes.NoSpace r.done)
 
     -- for one request or the other, whatever the turn
     which : TellsNone → HasNoBlock g m r ⊎ HasNoTwo m r
     which tells =
-        let after = done_by g m (task_of g m (turn_of turn)) reply in
-        let row = subst (λ told. ToldRow g unknown m told after.events after.memory.requests) tells (steps_tell_so g m (turn_of turn) reply unknown s can) in
+        let after = done_by g m (task_of g m turn) reply in
+        let row = subst (λ told. ToldRow g unknown m told after.events after.memory.requests) tells (steps_tell_so g m turn reply unknown s can) in
         let q : Request = row.0 in
         let ticket : q.ticket ≡ r.ticket = found_ticket r.ticket m.requests q row.1 in
         elim (none_row q r.op r.done after.events (row.2).1) [
@@ -207,8 +207,8 @@ module _ (g : Geometry) (m : Memory) (reply : Reply) (s : MemoryIsSound g m) whe
         ]
 
   -- a step tells of no space exactly where its turn finds none
-  pub finds_none : (turn : Turn) (r : Request) → CanHaveIt g (call_of g m (task_of g m (turn_of turn))) reply
-      → ((done_by g m (task_of g m (turn_of turn)) reply).told ≡ Answered r.ticket r.op (outcomes.NoSpace r.done)) ↔ FindsNoSpace g m turn r
+  pub finds_none : (turn : Turn) (r : Request) → CanHaveIt g (call_of g m (task_of g m turn)) reply
+      → ((done_by g m (task_of g m turn) reply).told ≡ Answered r.ticket r.op (outcomes.NoSpace r.done)) ↔ FindsNoSpace g m turn r
   finds_none turns.Worker r can = (
     λ tells. elim (which turns.Worker can r tells) [
       | inl block ↦ block

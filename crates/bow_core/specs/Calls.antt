@@ -3,7 +3,7 @@ use Rattle.std.specs.Prelude.{◌≡◌, ◌⊎◌, ℕ, ◌+◌, ◌-◌, ◌^�
 use Rattle.std.specs.Prelude.{Ok, Err}
 use Rattle.bow_units.specs.declared.sizes.Geometry.{Geometry}
 use Rattle.bow_units.specs.Causes.{Rose}
-use Rattle.bow_disk.specs.Disk.{Content, Same, Offered, Written, Flushed, Holds}
+use Rattle.bow_disk.specs.Disk.{Content, Same, Offered, Written, Flushed, ReadsAs}
 use Rattle.bow_machine.specs.Calls.{Call, ReadCall, WriteCall, FlushCall, Reply, Failed, Succeeded, Gave}
 pub use Rattle.bow_machine.specs.Calls.{calls_in, Passes}
 use Rattle.bow_machine.specs.MemoryLaws.{CanHave}
@@ -20,7 +20,7 @@ StaysWithout (Some call) old new = Unit {0}
 
 -- what a call does to the content of a disk, by its reply: one that it never has is impossible
 abbrev pub DoesCall : Call → Reply → Content → Content → Type 0
-DoesCall (ReadCall b) (Gave v) c d = Same c d × Holds b v c
+DoesCall (ReadCall b) (Gave v) c d = Same c d × ReadsAs b v c
 DoesCall (ReadCall b) Failed c d = Same c d
 DoesCall (ReadCall b) Succeeded c d = ⊥
 DoesCall (WriteCall b v) Succeeded c d = Written b v c d

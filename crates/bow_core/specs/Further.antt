@@ -14,7 +14,7 @@ use Rattle.bow_machine.specs.Calls.{Reply}
 use Rattle.bow_machine.specs.Memory.{Memory}
 use Rattle.bow_machine.specs.MemoryLaws.{tells_fault}
 use Rattle.bow_machine.specs.Tasks.{spelling}
-use Rattle.bow_core.specs.declared.turns.Turn.{Turn}
+use Rattle.bow_machine.specs.declared.turns.Turn.{Turn}
 use Rattle.bow_core.specs.declared.turns.Step.{Step as OwnStep}
 use Rattle.bow_core.specs.Forward.{SoundAreAheadIn}
 use Rattle.bow_core.specs.Standing.{state_after, step_seen}

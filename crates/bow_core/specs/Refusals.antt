@@ -11,7 +11,8 @@ use Rattle.bow_units.specs.Magics.{HasMagic}
 use Rattle.bow_machine.specs.Requests.{Request, request_of, first_of}
 use Rattle.bow_machine.specs.Memory.{Memory, Empty, has_command}
 use Rattle.bow_machine.specs.Steps.{Answered}
-use Rattle.bow_machine.specs.Tasks.{Turn, Map, Command}
+use Rattle.bow_machine.specs.declared.turns.Turn.{Turn}
+use Rattle.bow_machine.specs.declared.turns.Turn.TheVariants.{Map, Command}
 use Rattle.bow_core.specs.declared.turns.Step.{Step as OwnStep}
 use Rattle.bow_core.specs.Turns.{told_of}
 

@@ -7,8 +7,8 @@ use Rattle.bow_machine.specs.Requests.{Request}
 use Rattle.bow_machine.specs.Memory.{Memory, reserved}
 use Rattle.bow_machine.specs.MemoryIsSound.{is_touched}
 use Rattle.bow_machine.specs.MemoryLaws.{HasNoBlock, HasNoTwo}
-use Rattle.bow_core.specs.declared.turns.Turn.{Turn}
-use Rattle.bow_core.specs.declared.turns.Turn.TheVariants as turns
+use Rattle.bow_machine.specs.declared.turns.Turn.{Turn}
+use Rattle.bow_machine.specs.declared.turns.Turn.TheVariants as turns
 
 -- As many blocks were free at the prepare as are free now, together with the two that it took, one for each log
 -- before the present one, the changed and saved ones, and those picked by a batch whose log was not yet written.

@@ -11,7 +11,7 @@ use Rattle.bow_machine.specs.Calls.{Reply}
 use Rattle.bow_machine.specs.Laws.{after_all, AllowsAll}
 use Rattle.bow_machine.specs.Standing.{IsStanding}
 use Rattle.bow_machine.specs.Steps.{Step, step_of}
-use Rattle.bow_core.specs.declared.turns.Turn.{Turn}
+use Rattle.bow_machine.specs.declared.turns.Turn.{Turn}
 use Rattle.bow_core.specs.declared.turns.Step.{Step as OwnStep}
 use Rattle.bow_core.specs.Turns.{told_of}
 use Rattle.bow_core.specs.Steps.{task_in, unknown}

@@ -9,9 +9,9 @@ use Rattle.bow_machine.specs.Calls.{Call, Reply, Failed}
 use Rattle.bow_machine.specs.MemoryLaws.{tells_fault}
 use Rattle.bow_machine.specs.Tasks.{Task, task_of}
 use Rattle.bow_machine.specs.Steps.{Step, call_of, step_of}
-use Rattle.bow_core.specs.declared.turns.Turn.{Turn}
+use Rattle.bow_machine.specs.declared.turns.Turn.{Turn}
 use Rattle.bow_core.specs.declared.turns.Step.{Step as OwnStep}
-use Rattle.bow_core.specs.Turns.{turn_of, told_of}
+use Rattle.bow_core.specs.Turns.{told_of}
 use Rattle.bow_core.specs.Ports.{Makes}
 use Rattle.bow_core.specs.Views.{View}
 use Rattle.bow_core.specs.Held.{Held, with_memory}
@@ -51,7 +51,7 @@ pub record Does {D : Type 0} (stated : D → Option Geometry) (content : D → O
 
 -- what a turn of a device does
 abbrev pub task_in : {D : Type 0} → View D → Turn → Task
-task_in v turn = task_of v.geometry v.memory (turn_of turn)
+task_in v turn = task_of v.geometry v.memory turn
 
 -- the call that it makes on the disk: one at most
 abbrev pub call_in : {D : Type 0} → View D → Turn → Option Call

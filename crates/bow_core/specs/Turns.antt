@@ -1,16 +1,7 @@
--- Turns and what steps tell, in the machine's words.
-use Rattle.bow_machine.specs.Tasks.{Turn, Map, Worker, Command}
+-- What steps tell, in the machine's words.
 use Rattle.bow_machine.specs.Steps.{Told, Idle, Moved, Wrote, Got, Answered}
-use Rattle.bow_core.specs.declared.turns.Turn.{Turn as OwnTurn}
-use Rattle.bow_core.specs.declared.turns.Turn.TheVariants as turns
 use Rattle.bow_core.specs.declared.turns.Step.{Step as OwnStep}
 use Rattle.bow_core.specs.declared.turns.Step.TheVariants as steps
-
--- whose turn it is
-abbrev pub turn_of : OwnTurn → Turn
-turn_of (turns.Map ticket) = Map ticket
-turn_of turns.Worker = Worker
-turn_of turns.Command = Command
 
 -- what a step tells
 abbrev pub told_of : OwnStep → Told

@@ -13,7 +13,7 @@ ghost use Rattle.bow_core.specs.Room.{FindsNoSpace, IsExactRoom};
 ghost use Rattle.bow_core.specs.Standing.{StandsIn, Leads};
 ghost use Rattle.bow_core.specs.Steps.{Does, FailureIsTold, IsInOrder, IsStep};
 ghost use Rattle.bow_core.specs.Ties.{IsTied};
-ghost use Rattle.bow_core.specs.Turns.{turn_of, told_of};
+ghost use Rattle.bow_core.specs.Turns.{told_of};
 ghost use Rattle.bow_core.specs.Views.{IsOpened};
 ghost use Rattle.bow_disk.specs.Disk.{Content};
 ghost use Rattle.bow_flat.specs.Flat.Event.{Flushes};
@@ -28,7 +28,8 @@ ghost use Rattle.bow_machine.specs.Ready.{is_ready};
 ghost use Rattle.bow_machine.specs.Requests.{Request};
 ghost use Rattle.bow_machine.specs.Shown.{status_of, IsShown};
 ghost use Rattle.bow_machine.specs.Steps.{Answered, Idle};
-ghost use Rattle.bow_machine.specs.Tasks.{Command, Map, task_of};
+ghost use Rattle.bow_machine.specs.Tasks.{task_of};
+ghost use Rattle.bow_machine.specs.declared.turns.Turn.TheVariants.{Command, Map};
 ghost use Rattle.bow_queue.specs.declared.tickets.Ticket.{Ticket};
 ghost use Rattle.bow_units.specs.Causes.{Rose};
 ghost use Rattle.bow_units.specs.Magics.{IsPlain};
@@ -37,14 +38,14 @@ ghost use Rattle.bow_units.specs.declared.requests.Op.TheVariants.{Flush};
 ghost use Rattle.bow_units.specs.declared.requests.Outcome.TheVariants.{Done, NoSpace};
 ghost use Rattle.bow_units.specs.declared.requests.Phase.TheVariants.{Checkpoint};
 
-use crate::Ticket;
 use crate::batches::step_worker;
 use crate::commands::step_command;
 use crate::mapping::map_step;
 use crate::ports::Port;
 use crate::slots::read_block;
 use crate::state::State;
-use crate::turns::{Step, Turn};
+use crate::turns::Step;
+use crate::{Ticket, Turn};
 use bow_disk::Disk;
 use bow_log::Log;
 use bow_ranges::Ranges;
@@ -109,7 +110,7 @@ fn settle<D: Disk, R: Ranges>(port: &mut Port<D>, state: &mut State<R>) -> Resul
 fn step_turn<D: Disk, R: Ranges>(port: &mut Port<D>, state: &mut State<R>, turn: Turn) -> Step
     requires order { IsInOrder D.stated port.old state.old }
     ensures { Does D.stated D.content D.moment D.left_since D.faults port.old state.old
-        (task_of state.old.geometry state.old.memory (turn_of turn)) result port.new state.new }
+        (task_of state.old.geometry state.old.memory turn) result port.new state.new }
 {
     match turn {
         Turn::Map(ticket) => map_step(port, state, ticket),
@@ -272,7 +273,7 @@ impl<D: Disk, R: Ranges> Core<D, R> {
 
     /// Whether a turn makes a step: by the table of readiness.
     pub fn ready(&self, turn: Turn) -> bool
-        ensures { result ≡ is_ready self.now.geometry self.now.memory (turn_of turn) }
+        ensures { result ≡ is_ready self.now.geometry self.now.memory turn }
     {
         self.state.is_ready(turn)
     }
@@ -288,14 +289,14 @@ impl<D: Disk, R: Ranges> Core<D, R> {
     /// between, each crash image may be given up forward, also where the last call failed.
     pub fn step(&mut self, turn: Turn) -> Step
         ensures step { IsStep D.stated D.content D.moment D.left_since D.faults self.old turn result self.new }
-        ensures idle { (told_of result ≡ Idle) ↔ (is_ready self.old.geometry self.old.memory (turn_of turn) ≡ false) }
+        ensures idle { (told_of result ≡ Idle) ↔ (is_ready self.old.geometry self.old.memory turn ≡ false) }
         ensures still { told_of result ≡ Idle → self.new ≡ self.old }
         ensures cause { tells_fault (told_of result) ≡ true → Rose (D.faults self.old.disk) (D.faults self.new.disk) }
         ensures failed { FailureIsTold D.stated D.content D.moment D.left_since D.faults self.old turn result self.new }
         ensures faults { D.faults self.old.disk ≤ D.faults self.new.disk }
         ensures space { (r : Request) → (told_of result ≡ Answered r.ticket r.op (NoSpace r.done)) ↔ FindsNoSpace
             self.old.geometry self.old.memory turn r }
-        ensures refused { RefusesExactly self.old.geometry self.old.memory (turn_of turn) result }
+        ensures refused { RefusesExactly self.old.geometry self.old.memory turn result }
         ensures tied { IsTied self.old.geometry self.old.memory self.new.memory }
         ensures calls { (self.old.calls ≤ self.new.calls) × (self.new.calls ≤ self.old.calls + 1) }
         ensures opened { IsOpened D.stated self.new }
@@ -304,9 +305,9 @@ impl<D: Disk, R: Ranges> Core<D, R> {
         ensures further { (f : Flat) → StandsIn D.content self.old f → KeepsOn D.content self.old turn result self.new
             f }
         ensures flushed { (f : Flat) (asked t : Ticket) → StandsIn D.content self.old f → LedIn D.content self.old f →
-            self.old.memory.phase ≡ Checkpoint → turn_of turn ≡ Map asked → told_of result ≡ Answered t Flush Done →
+            self.old.memory.phase ≡ Checkpoint → turn ≡ Map asked → told_of result ≡ Answered t Flush Done →
             IsForward D.content self.new (after self.old.geometry.blocks Flushes f) }
-        ensures forward { (f : Flat) → IsForward D.content self.old f → turn_of turn ≡ Command → StaysForward D.content
+        ensures forward { (f : Flat) → IsForward D.content self.old f → turn ≡ Command → StaysForward D.content
             D.moment D.left_since self.old result self.new f }
     {
         step_turn(&mut self.port, &mut self.state, turn)

@@ -15,6 +15,7 @@ mod tasks;
 mod turns;
 mod workers;
 
+pub use bow_machine::Turn;
 pub use bow_queue::Ticket;
 pub use device::{Core, OpenFault};
-pub use turns::{Step, Turn};
+pub use turns::Step;

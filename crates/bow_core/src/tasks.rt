@@ -4,16 +4,14 @@ ghost use Rattle.bow_units.specs.Sizes.{IsValid};
 ghost use Rattle.bow_machine.specs.Requests.{Request, refusal, unsettled, has_magic};
 ghost use Rattle.bow_machine.specs.MemoryIsSound.{IsAdmissible, IsWaiting, MemoryIsSound};
 ghost use Rattle.bow_machine.specs.Tasks.{task_for, unless_command, unless_refused, is_waiting, needs_worker, head};
-ghost use Rattle.bow_machine.specs.Tasks.{Map, Worker, Command};
-ghost use Rattle.bow_core.specs.Turns.{turn_of};
+ghost use Rattle.bow_machine.specs.declared.turns.Turn.TheVariants.{Map, Worker, Command};
 ghost use Rattle.bow_machine.specs.Ready.{is_ready, is_idle};
 ghost use Rattle.bow_core.specs.Tasks.{task_of_request, IsReadOf, IsWriteOf};
 
-use crate::Ticket;
 use crate::hands::Hand;
 use crate::requests::is_on_device;
 use crate::state::State;
-use crate::turns::Turn;
+use crate::{Ticket, Turn};
 use bow_queue::Request;
 use bow_ranges::Ranges;
 use bow_units::{Extent, Geometry, Op, Outcome, Phase};
@@ -199,7 +197,7 @@ impl<R: Ranges> State<R> {
     /// Whether a turn makes a step: by the table of readiness.
     pub(crate) fn is_ready(&self, turn: Turn) -> bool
         requires { MemoryIsSound self.now.geometry self.now.memory }
-        ensures { result ≡ is_ready self.now.geometry self.now.memory (turn_of turn) }
+        ensures { result ≡ is_ready self.now.geometry self.now.memory turn }
     {
         match turn {
             Turn::Map(ticket) => self.is_request_ready(ticket),

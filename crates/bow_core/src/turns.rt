@@ -1,17 +1,6 @@
-// Whose step comes next, and what it did.
+// What a step did.
 use crate::Ticket;
 use bow_units::{Op, Outcome};
-
-/// Whose turn it is.
-#[derive(Clone, Copy, Debug, PartialEq, Eq)]
-pub enum Turn {
-    /// The request of this ticket.
-    Map(Ticket),
-    /// The worker, which makes batches for the writes that need it.
-    Worker,
-    /// The prepare or commit in hand, or the first one that waits.
-    Command,
-}
 
 /// What a step did.
 #[derive(Drop)]

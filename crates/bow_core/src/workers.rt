@@ -4,7 +4,8 @@ ghost use Rattle.std.specs.Prelude.{length, min, Some, None, IsSome, true, false
 ghost use Rattle.bow_log.specs.Generations.{room};
 ghost use Rattle.bow_machine.specs.Memory.{Empty, is_kind_current};
 ghost use Rattle.bow_machine.specs.Steps.{log_of_memory};
-ghost use Rattle.bow_machine.specs.Tasks.{Worker, alike_from, is_source, task_of, without_picked};
+ghost use Rattle.bow_machine.specs.Tasks.{alike_from, is_source, task_of, without_picked};
+ghost use Rattle.bow_machine.specs.declared.turns.Turn.TheVariants.{Worker};
 ghost use Rattle.bow_machine.specs.MemoryIsSound.{IsTable};
 ghost use Rattle.bow_ranges.specs.Kinds.{kind_at};
 ghost use Rattle.bow_ranges.specs.Picks.{picked};

@@ -64,8 +64,8 @@ abbrev pub FlushStep : {T E : Type 0} → Result T E → Content → Content →
 FlushStep r old new = MatchResult r (λ _. Flushed old new) (λ _. Same old new)
 
 -- the content of a block
-abbrev pub Holds : ℕ → List ℕ → Content → Type 0
-Holds b v c = slice_index_or c.now b [] ≡ v
+abbrev pub ReadsAs : ℕ → List ℕ → Content → Type 0
+ReadsAs b v c = slice_index_or c.now b [] ≡ v
 
 -- an image of a device of these sizes: so many blocks, each of so many bytes
 pub record IsImage (size count : ℕ) (image : List (List ℕ)) : Type 0 where

@@ -2,7 +2,7 @@
 ghost use Rattle.std.specs.Prelude.{◌≡◌, ◌<◌, ◌≤◌, ℕ, List, length, Option, Some, IfOk, OnOk, MatchOption};
 ghost use Rattle.bow_units.specs.Causes.{HasCause};
 ghost use Rattle.bow_units.specs.declared.sizes.Geometry.{Geometry};
-ghost use Rattle.bow_disk.specs.Disk.{Content, IsCrash, Goes, Same, WriteStep, FlushStep, Holds, IsImage, IsShaped, TimeGoes, KeepsSizes, HasBlock, SettledLaw, ImagesLaw};
+ghost use Rattle.bow_disk.specs.Disk.{Content, IsCrash, Goes, Same, WriteStep, FlushStep, ReadsAs, IsImage, IsShaped, TimeGoes, KeepsSizes, HasBlock, SettledLaw, ImagesLaw};
 
 use bow_units::{Failed, Geometry};
 
@@ -45,7 +45,7 @@ pub trait Disk {
     /// `Failed` comes only where the count of faults rose. A read changes nothing.
     fn read(&mut self, at: u64, into: &mut [u8]) -> Result<(), Failed>
         requires { HasBlock (stated self.old) at (length into.old) }
-        ensures gives { OnOk result (MatchOption (content self.old) (Unit {0}) (Holds at into.new)) }
+        ensures gives { OnOk result (MatchOption (content self.old) (Unit {0}) (ReadsAs at into.new)) }
         ensures always { KeepsSizes (stated self.old) (stated self.new) }
         ensures step { Goes Same (content self.old) (content self.new) }
         ensures time { TimeGoes (content self.new) (moment self.old) (moment self.new) (left_since self.old)

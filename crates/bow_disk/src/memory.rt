@@ -1,7 +1,7 @@
 // A disk in memory.
 ghost use Rattle.std.specs.Prelude.{◌≡◌, ◌*◌, ◌++◌, ◌∷◌, [], ℕ, List, length, min, is_err, is_some, nat_lt, slice_index_or, Some, IfOk, OnOk, OnErr};
 ghost use Rattle.bow_units.specs.Causes.{HasCause};
-ghost use Rattle.bow_disk.specs.Disk.{IsCrash, IsSettledOn, HasBlock, Goes, Same, WriteStep, FlushStep, Holds, TimeGoes, KeepsSizes};
+ghost use Rattle.bow_disk.specs.Disk.{IsCrash, IsSettledOn, HasBlock, Goes, Same, WriteStep, FlushStep, ReadsAs, TimeGoes, KeepsSizes};
 ghost use Rattle.bow_disk.specs.Memory.{IsFit, LeftSince, content, failure, write_failure, read_by, written_by, flushed_by, fresh, asked};
 ghost use Rattle.bow_disk.specs.Bytes.{image_of, IsBytesOf};
 ghost use Rattle.bow_disk.specs.Cuts.{picked};
@@ -214,7 +214,7 @@ impl Disk for MemDisk {
 
     fn read(&mut self, at: u64, into: &mut [u8]) -> Result<(), Failed>
         requires { HasBlock (Some self.old.state.geometry) at (length into.old) }
-        ensures gives { OnOk result (Holds at into.new (content self.old.state)) }
+        ensures gives { OnOk result (ReadsAs at into.new (content self.old.state)) }
         ensures always { KeepsSizes (Some self.old.state.geometry) (Some self.new.state.geometry) }
         ensures step { Same (content self.old.state) (content self.new.state) }
         ensures time { TimeGoes (Some (content self.new.state)) self.old.state.calls self.new.state.calls

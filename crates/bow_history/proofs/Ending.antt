@@ -11,7 +11,9 @@ use Rattle.bow_queue.specs.declared.tickets.Ticket.{Ticket}
 use Rattle.bow_machine.specs.Requests.{Request, request_of, with_request, without_request, filled}
 use Rattle.bow_machine.specs.Memory.{Memory}
 use Rattle.bow_machine.specs.Calls.{Reply}
-use Rattle.bow_machine.specs.Tasks.{Turn, Map, task_of}
+use Rattle.bow_machine.specs.Tasks.{task_of}
+use Rattle.bow_machine.specs.declared.turns.Turn.{Turn}
+use Rattle.bow_machine.specs.declared.turns.Turn.TheVariants.{Map}
 use Rattle.bow_machine.specs.Ready.{is_ready}
 use Rattle.bow_machine.specs.Steps.{Told, Idle, Moved, Wrote, Got, Answered, extent_of, call_of}
 use Rattle.bow_machine.specs.Ends.{steps_left, most_steps}

@@ -14,7 +14,8 @@ use Rattle.bow_flat.specs.Flat.{Flat, count_below}
 use Rattle.bow_ranges.specs.Kinds.{kind_at, count_of}
 use Rattle.bow_machine.specs.Requests.{Request}
 use Rattle.bow_machine.specs.Memory.{Memory, Empty, may_be_written, reserved}
-use Rattle.bow_machine.specs.Tasks.{Worker, Answers, task_of, head}
+use Rattle.bow_machine.specs.Tasks.{Answers, task_of, head}
+use Rattle.bow_machine.specs.declared.turns.Turn.TheVariants.{Worker}
 use Rattle.bow_machine.specs.MemoryIsSound.{is_touched}
 use Rattle.bow_machine.specs.MemoryLaws.{HasNoBlock}
 use Rattle.bow_machine.proofs.Consequences.{trimmed_is_kept}

@@ -21,7 +21,8 @@ use Rattle.bow_ranges.specs.Kinds.{kind_at, holds}
 use Rattle.bow_machine.specs.Requests.{Request, request_of, refusal}
 use Rattle.bow_machine.specs.Memory.{Memory, reserved}
 use Rattle.bow_machine.specs.Calls.{Reply}
-use Rattle.bow_machine.specs.Tasks.{Turn, task_of}
+use Rattle.bow_machine.specs.Tasks.{task_of}
+use Rattle.bow_machine.specs.declared.turns.Turn.{Turn}
 use Rattle.bow_machine.specs.Steps.{call_of, step_of}
 use Rattle.bow_machine.specs.MemoryIsSound.{IsTable, is_touched, LogIsSound, LogIsHeld, MemoryIsSound}
 use Rattle.bow_machine.specs.MemoryLaws.{CanHaveIt}

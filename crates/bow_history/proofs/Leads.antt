@@ -9,7 +9,8 @@ use Rattle.bow_queue.specs.declared.tickets.Ticket.{Ticket}
 use Rattle.bow_machine.specs.Requests.{Request, request_of, without_request, refusal}
 use Rattle.bow_machine.specs.Memory.{Memory}
 use Rattle.bow_machine.specs.Calls.{Reply, DoesIt}
-use Rattle.bow_machine.specs.Tasks.{Turn, task_of}
+use Rattle.bow_machine.specs.Tasks.{task_of}
+use Rattle.bow_machine.specs.declared.turns.Turn.{Turn}
 use Rattle.bow_machine.specs.Steps.{Told, Idle, Moved, Wrote, Got, Answered, Step, call_of, step_of}
 use Rattle.bow_machine.specs.Laws.{after_all, AllowsAll}
 use Rattle.bow_machine.specs.MemoryLaws.{HasNoBlock}

@@ -22,7 +22,8 @@ use Rattle.bow_machine.specs.MemoryIsSound.{MemoryIsSound, LogIsHeld, is_touched
 use Rattle.bow_machine.specs.MemoryLaws.{CanHaveIt}
 use Rattle.bow_machine.specs.Requests.{Request, request_of}
 use Rattle.bow_machine.specs.Steps.{Told, Idle, Moved, Wrote, Got, Answered, Step, call_of}
-use Rattle.bow_machine.specs.Tasks.{Turn, task_of}
+use Rattle.bow_machine.specs.Tasks.{task_of}
+use Rattle.bow_machine.specs.declared.turns.Turn.{Turn}
 use Rattle.bow_machine.specs.Ties.{WriteWaits}
 use Rattle.bow_machine.specs.Told.{ToldRow, AnswerRow}
 use Rattle.bow_machine.proofs.LogStays.{log_stays}

@@ -6,7 +6,8 @@ use Rattle.bow_units.specs.declared.requests.Op.{Op}
 use Rattle.bow_queue.specs.declared.tickets.Ticket.{Ticket}
 use Rattle.bow_machine.specs.Requests.{Request, request_of}
 use Rattle.bow_machine.specs.Ready.{is_ready, is_map_ready}
-use Rattle.bow_machine.specs.Tasks.{Turn, Map, Worker as WorkerTurn, Command as CommandTurn}
+use Rattle.bow_machine.specs.declared.turns.Turn.{Turn}
+use Rattle.bow_machine.specs.declared.turns.Turn.TheVariants.{Map, Worker as WorkerTurn, Command as CommandTurn}
 use Rattle.bow_machine.proofs.SoundReady.{some_turn_is_ready}
 use Rattle.bow_history.specs.declared.items.Actor.{Actor}
 use Rattle.bow_history.specs.declared.items.Actor.TheVariants.{Lane, Worker, Command}

@@ -9,7 +9,8 @@ use Rattle.bow_machine.specs.Calls.{Call, Reply, Failed, Succeeded, Gave}
 use Rattle.bow_machine.specs.MemoryLaws.{CanHaveIt, FaultIsTold, tells_fault, served_by}
 use Rattle.bow_machine.specs.Requests.{Request}
 use Rattle.bow_machine.specs.Steps.{Told, call_of}
-use Rattle.bow_machine.specs.Tasks.{Turn, task_of}
+use Rattle.bow_machine.specs.Tasks.{task_of}
+use Rattle.bow_machine.specs.declared.turns.Turn.{Turn}
 use Rattle.bow_machine.proofs.SoundCalls.{faults_are_told}
 use Rattle.bow_history.specs.declared.items.Item.{Item}
 use Rattle.bow_history.specs.Histories.{Disk, journal_of, with_items}

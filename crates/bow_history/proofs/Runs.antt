@@ -18,7 +18,9 @@ use Rattle.bow_guard.specs.Cuts.{Candidates}
 use Rattle.bow_machine.specs.Requests.{Request, request_of}
 use Rattle.bow_machine.specs.Memory.{Memory, Hand, Empty, Batching, Preparing, Committing}
 use Rattle.bow_machine.specs.Calls.{Reply, Failed, Succeeded, DoesIt, Call}
-use Rattle.bow_machine.specs.Tasks.{Turn, Map, Worker, Command, task_of}
+use Rattle.bow_machine.specs.Tasks.{task_of}
+use Rattle.bow_machine.specs.declared.turns.Turn.{Turn}
+use Rattle.bow_machine.specs.declared.turns.Turn.TheVariants.{Map, Worker, Command}
 use Rattle.bow_machine.specs.Steps.{Told, Idle, Moved, Wrote, Got, Answered, Step, call_of, step_of}
 use Rattle.bow_machine.specs.MemoryIsSound.{HandIsSound}
 use Rattle.bow_machine.specs.Standing.{IsStanding}

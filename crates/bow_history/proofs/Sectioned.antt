@@ -5,7 +5,7 @@ use Rattle.bow_units.specs.declared.requests.Op.{Op}
 use Rattle.bow_flat.specs.Flat.{put}
 use Rattle.bow_queue.specs.declared.tickets.Ticket.{Ticket}
 use Rattle.bow_machine.specs.Memory.{Memory}
-use Rattle.bow_machine.specs.Tasks.{Turn}
+use Rattle.bow_machine.specs.declared.turns.Turn.{Turn}
 use Rattle.bow_machine.specs.Steps.{Told, Idle, Moved, Wrote, Got, Answered}
 use Rattle.bow_machine.proofs.MappedWrites.{put_here, put_there}
 use Rattle.bow_history.specs.declared.items.Item.{Item}

@@ -5,7 +5,8 @@ use Rattle.std.specs.List.{sum_by}
 use Rattle.std.proofs.lemmas.List.Sums.{sum_by-append}
 use Rattle.bow_queue.specs.declared.tickets.Ticket.{Ticket}
 use Rattle.bow_machine.specs.Calls.{Call, Reply, Failed, Succeeded, Gave}
-use Rattle.bow_machine.specs.Tasks.{Turn, task_of}
+use Rattle.bow_machine.specs.Tasks.{task_of}
+use Rattle.bow_machine.specs.declared.turns.Turn.{Turn}
 use Rattle.bow_machine.specs.Steps.{Told, Idle, Moved, Wrote, Got, Answered, call_of}
 use Rattle.bow_history.specs.declared.items.Item.{Item}
 use Rattle.bow_history.specs.Journal.{Plan, beginning, Legal}

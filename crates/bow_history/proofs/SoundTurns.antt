@@ -9,7 +9,8 @@ use Rattle.bow_queue.specs.declared.tickets.Ticket.{Ticket}
 use Rattle.bow_machine.specs.Requests.{Request, request_of, filled}
 use Rattle.bow_machine.specs.Memory.{Memory}
 use Rattle.bow_machine.specs.Calls.{Reply}
-use Rattle.bow_machine.specs.Tasks.{Turn, task_of}
+use Rattle.bow_machine.specs.Tasks.{task_of}
+use Rattle.bow_machine.specs.declared.turns.Turn.{Turn}
 use Rattle.bow_machine.specs.Steps.{Told, Idle, Moved, Wrote, Got, Answered, Step, call_of}
 use Rattle.bow_machine.specs.MemoryIsSound.{IsWaiting, MemoryIsSound}
 use Rattle.bow_machine.specs.MemoryLaws.{CanHaveIt}

@@ -2,7 +2,7 @@
 use Rattle.std.specs.Prelude.{ℕ, zero, suc, ◌&&◌, ◌||◌, nat_le, nat_lt, Bool, true, not, Option, Some, None, is_none}
 use Rattle.bow_queue.specs.declared.tickets.Ticket.{Ticket}
 use Rattle.bow_machine.specs.Ready.{is_ready}
-use Rattle.bow_machine.specs.Tasks.{Map, Worker as WorkerTurn, Command as CommandTurn}
+use Rattle.bow_machine.specs.declared.turns.Turn.TheVariants.{Map, Worker as WorkerTurn, Command as CommandTurn}
 use Rattle.bow_history.specs.declared.items.Actor.{Actor}
 use Rattle.bow_history.specs.declared.items.Actor.TheVariants.{Lane, Worker, Command}
 use Rattle.bow_history.specs.Journal.{Plan}

@@ -11,7 +11,9 @@ use Rattle.bow_queue.specs.declared.tickets.Ticket.{Ticket}
 use Rattle.bow_queue.specs.Requests.{same_ticket}
 use Rattle.bow_machine.specs.Memory.{Memory}
 use Rattle.bow_machine.specs.Calls.{Call, Reply, Succeeded}
-use Rattle.bow_machine.specs.Tasks.{Turn, Map, Worker as WorkerTurn, Command as CommandTurn, task_of}
+use Rattle.bow_machine.specs.Tasks.{task_of}
+use Rattle.bow_machine.specs.declared.turns.Turn.{Turn}
+use Rattle.bow_machine.specs.declared.turns.Turn.TheVariants.{Map, Worker as WorkerTurn, Command as CommandTurn}
 use Rattle.bow_machine.specs.Steps.{Told, Idle, Moved, Wrote, Got, Answered, Step, payload_of, extent_of, call_of}
 use Rattle.bow_machine.specs.Steps.{step_of}
 use Rattle.bow_machine.specs.MemoryIsSound.{IsAdmissible}

@@ -14,18 +14,14 @@ use Rattle.bow_log.specs.Generations.{Generation, room, fields_of}
 use Rattle.bow_log.specs.Spelling.{spell}
 use Rattle.bow_copy.specs.declared.jobs.Job.{Job}
 use Rattle.bow_copy.specs.declared.jobs.Job.TheVariants as jobs
-use Rattle.bow_queue.specs.declared.tickets.Ticket.{Ticket}
 use Rattle.bow_queue.specs.Requests.{waits_on}
 pub use Rattle.bow_queue.specs.Requests.{first_of}
 use Rattle.bow_ranges.specs.Kinds.{kind_at, with_kind, is_free, count_of}
 use Rattle.bow_ranges.specs.Picks.{picked}
+pub use Rattle.bow_machine.specs.declared.turns.Turn.{Turn}
+pub use Rattle.bow_machine.specs.declared.turns.Turn.TheVariants.{Map, Worker, Command}
 use Rattle.bow_machine.specs.Requests.{Request, request_of, refusal}
 use Rattle.bow_machine.specs.Memory.{Memory, Batch, Hand, Empty, Batching, Preparing, Committing, ReadsBlock0, WritesFirstLog, FlushesAll, has_command, is_direct, is_kind_current}
-
--- whose turn it is: a request's, the worker's, or that of the commands
-pub data Turn : Type 0 where
-  Map : Ticket → Turn
-  Worker Command : Turn
 
 -- What the turn does. `Acts` is the next act of the batch or command that is in hand in the memory that it carries,
 -- which differs from the one before the turn where the batch was formed, or the command taken, in this turn.

@@ -17,7 +17,7 @@ use Rattle.bow_machine.specs.MemoryIsSound.{HandIsSound, MemoryIsSound}
 use Rattle.bow_machine.specs.MemoryLaws.{CanHaveIt}
 use Rattle.bow_machine.specs.Requests.{Request, request_of, unsettled, without_request}
 use Rattle.bow_machine.specs.Steps.{Answered, Step, Told, act_step, call_of, commit_step, flushed, step_of}
-use Rattle.bow_machine.specs.Tasks.{Acts, Command, FlushesFor, Map, Task, Waits, command_task, first_of, map_task, take_first, taken, task_for, task_of, unless_refused}
+use Rattle.bow_machine.specs.Tasks.{Acts, FlushesFor, Task, Waits, command_task, first_of, map_task, take_first, taken, task_for, task_of, unless_refused}
 use Rattle.bow_pair.specs.Committing.{CommitsIn, HandAt, answer_in}
 use Rattle.std.specs.Prelude.{◌++◌, unwrap_or}
 use Rattle.bow_disk.specs.Disk.{Content}
@@ -30,7 +30,8 @@ use Rattle.bow_core.specs.Steps.{IsStep, unknown}
 use Rattle.bow_core.specs.Turns.{told_of}
 use Rattle.bow_core.specs.Views.{IsOpened, View}
 use Rattle.bow_core.specs.declared.turns.Step.{Step as OwnStep}
-use Rattle.bow_core.specs.declared.turns.Turn.TheVariants as turns
+use Rattle.bow_machine.specs.declared.turns.Turn.TheVariants.{Command, Map}
+use Rattle.bow_machine.specs.declared.turns.Turn.TheVariants as turns
 use Rattle.bow_disk.specs.Disk.{IsCrash, IsShaped}
 use Rattle.bow_disk.specs.Shapes.{crash_image}
 use Rattle.bow_chain.specs.Contents.{contents_of}
@@ -48,7 +49,6 @@ use Rattle.bow_core.specs.Calls.{RepliesTo}
 use Rattle.bow_core.specs.Forward.{AreForwardable, IsForward, StaysForward}
 use Rattle.bow_core.specs.Standing.{StandsOver, state_after}
 use Rattle.bow_core.specs.Steps.{call_in, step_in}
-use Rattle.bow_core.specs.Turns.{turn_of}
 use Rattle.bow_pair.specs.Committing.{AreCurrent, IsAtRest, IsFlushedFor}
 use borrow.Author.Tests.{eq-eqb}
 
@@ -302,7 +302,7 @@ module _ {D : Type 0} (stated : D → Option Geometry) (content : D → Option C
     ]
 
     module _ (opened : IsOpened stated u) (later : faults v.disk ≤ faults u.disk) (leads : (f : Flat) → StandsIn content v f → Leads content moment left v turns.Command tells u f)
-        (forward : (f : Flat) → IsForward content v f → turn_of turns.Command ≡ Command → StaysForward content moment left v tells u f) where
+        (forward : (f : Flat) → IsForward content v f → turns.Command ≡ turns.Command → StaysForward content moment left v tells u f) where
       pub going_on : answer_in (told_of tells) ≡ None → (rest : ℕ) × (acts ≡ rest + 1) × Going u rest
       going_on is = elim leads_to [
         | inr (inl failed) ↦ absurd (cc (sym (ap answer_in s.told ∙ failed.0) ∙ is))

@@ -19,7 +19,8 @@ use Rattle.bow_machine.specs.Memory.{Memory, reserved}
 use Rattle.bow_machine.specs.MemoryIsSound.{LogIsHeld}
 use Rattle.bow_machine.specs.Standing.{IsStanding}
 use Rattle.bow_machine.specs.Steps.{Step, Told, Idle, Moved, Wrote, Got, Answered, call_of, step_of}
-use Rattle.bow_machine.specs.Tasks.{Turn, task_of}
+use Rattle.bow_machine.specs.Tasks.{task_of}
+use Rattle.bow_machine.specs.declared.turns.Turn.{Turn}
 use Rattle.bow_machine.proofs.Orders.{disk_by_reply}
 use Rattle.bow_machine.proofs.SoundCalls.{calls_are_on_device}
 use Rattle.bow_machine.proofs.SoundPast.{older_logs_stay, readers_follow}

@@ -18,7 +18,8 @@ use Rattle.bow_machine.proofs.SoundOpenings.{opening_is_sound}
 use Rattle.bow_machine.specs.MemoryLaws.{CanHaveIt}
 use Rattle.bow_machine.specs.Requests.{Request, is_reserved, refusal, request_of, unsettled}
 use Rattle.bow_machine.specs.Steps.{Told, Idle, Moved, Wrote, Got, Answered, call_of}
-use Rattle.bow_machine.specs.Tasks.{Turn, task_of}
+use Rattle.bow_machine.specs.Tasks.{task_of}
+use Rattle.bow_machine.specs.declared.turns.Turn.{Turn}
 use Rattle.bow_machine.specs.Told.{AnswerRow, ServedRow, ToldRow}
 use Rattle.bow_history.specs.Journal.{Plan}
 use Rattle.bow_history.specs.Sessions.{Session, Turned, Admits, Steps, IsFor, IsTurn, after_turn, call_of_turn, device_step, item_in, item_of, item_of_turn, lane_of, turn_of, unknown}

@@ -16,7 +16,7 @@ use Rattle.bow_units.specs.declared.requests.Op.TheVariants.{Flush}
 use Rattle.bow_queue.specs.declared.tickets.Ticket.{Ticket}
 use Rattle.bow_queue.specs.declared.requests.Request.{Request}
 use Rattle.bow_queue.specs.Requests.{Requests, IsOrderly, Precedes, same_ticket, request_of, the_request, without_request, with_request, fresh_request}
-use Rattle.bow_queue.specs.Insides.{IsSound, AreStored, HoldsNoOther, request_at, requests_at, ticket_at}
+use Rattle.bow_queue.specs.Insides.{QueueIsSound, AreStored, HoldsNoOther, request_at, requests_at, ticket_at}
 
 -- the requests, and the numbers beside them
 abbrev pub requests_of : List Request → ℕ → ℕ → ℕ → Requests
@@ -70,7 +70,7 @@ tickets_of slots (t ∷ ts) stored =
     rw (here, rest) refl
 
 -- what the queue keeps of its tickets is what callers learn of its requests
-pub sound_orderly : (requests : Requests) (tickets : List Ticket) (slots : Slab Request) (places blocks admitted : ℕ) → requests_of (requests_at slots tickets) places blocks admitted ≡ requests → IsSound tickets slots places admitted → IsOrderly requests
+pub sound_orderly : (requests : Requests) (tickets : List Ticket) (slots : Slab Request) (places blocks admitted : ℕ) → requests_of (requests_at slots tickets) places blocks admitted ≡ requests → QueueIsSound tickets slots places admitted → IsOrderly requests
 sound_orderly requests tickets slots places blocks admitted is sound =
     rw (← is) (record {
       apart = rw (tickets_of slots tickets sound.stored) sound.apart;
@@ -116,7 +116,7 @@ module _ (tickets : List Ticket) (slots later : Slab Request) (request : Request
       let its : request.ticket ≡ t = same_Some _ _ (ap (option_map (λ r. r.ticket)) (sym (ap (get later) same ∙ updates.changed)) ∙ is) in
       (ap (λ x. x.key) (sym its) ∙ sym same, (length tickets, omega (arith, length_push tickets request.ticket), get_or_at tickets request.ticket [] t (length tickets) refl ∙ its))
 
-  pub admitted_sound : (old : Requests) (added : List Ticket) (places blocks admitted : ℕ) → requests_of (requests_at slots tickets) places blocks admitted ≡ old → IsSound tickets slots places admitted → length old.waiting < old.places → slab_len later ≡ slab_len slots + 1 → later.capacity ≡ slots.capacity → request.ticket.serial ≡ admitted → added ≡ tickets ++ request.ticket ∷ [] → IsSound added later places (admitted + 1)
+  pub admitted_sound : (old : Requests) (added : List Ticket) (places blocks admitted : ℕ) → requests_of (requests_at slots tickets) places blocks admitted ≡ old → QueueIsSound tickets slots places admitted → length old.waiting < old.places → slab_len later ≡ slab_len slots + 1 → later.capacity ≡ slots.capacity → request.ticket.serial ≡ admitted → added ≡ tickets ++ request.ticket ∷ [] → QueueIsSound added later places (admitted + 1)
   admitted_sound old added places blocks admitted is sound spare count capacity serial put =
       let a_place : length tickets < places = rw (length-map tickets (request_at slots)) at (rw (← is) at spare) in
       rw put (record {
@@ -174,7 +174,7 @@ found_at slots (t ∷ ts) (suc i) ticket stored within at =
     ]
 
 -- one look-up in the slab decides: what lies at the key and has the ticket is its request
-module _ (tickets : List Ticket) (slots : Slab Request) (places admitted : ℕ) (sound : IsSound tickets slots places admitted) (ticket : Ticket) where
+module _ (tickets : List Ticket) (slots : Slab Request) (places admitted : ℕ) (sound : QueueIsSound tickets slots places admitted) (ticket : Ticket) where
   pub looked_up : (r : Request) → get slots ticket.key ≡ Some r → r.ticket ≡ ticket → request_of ticket (requests_at slots tickets) ≡ Some r
   looked_up r there its =
       let has : ticket_at slots ticket.key ≡ Some ticket = rw (there, its) refl in
@@ -250,7 +250,7 @@ module _ (slots later : Slab Request) (before changed : Request) (there : get sl
             rw (no, rest, kept) refl
       ]
 
-  pub changed_sound : (tickets : List Ticket) (places admitted : ℕ) → IsSound tickets slots places admitted → slab_len later ≡ slab_len slots → later.capacity ≡ slots.capacity → IsSound tickets later places admitted
+  pub changed_sound : (tickets : List Ticket) (places admitted : ℕ) → QueueIsSound tickets slots places admitted → slab_len later ≡ slab_len slots → later.capacity ≡ slots.capacity → QueueIsSound tickets later places admitted
   changed_sound tickets places admitted sound count capacity =
       record {
         apart = sound.apart;
@@ -265,7 +265,7 @@ module _ (slots later : Slab Request) (before changed : Request) (there : get sl
       }
 
 -- a ticket over a sound queue
-module _ (old : Requests) (tickets : List Ticket) (slots : Slab Request) (places blocks admitted : ℕ) (is : requests_of (requests_at slots tickets) places blocks admitted ≡ old) (sound : IsSound tickets slots places admitted) (ticket : Ticket) where
+module _ (old : Requests) (tickets : List Ticket) (slots : Slab Request) (places blocks admitted : ℕ) (is : requests_of (requests_at slots tickets) places blocks admitted ≡ old) (sound : QueueIsSound tickets slots places admitted) (ticket : Ticket) where
   -- what waits under it lies at its key
   pub found : (r : Request) → get slots ticket.key ≡ Some r → r.ticket ≡ ticket → request_of ticket old.waiting ≡ Some r
   found r there its = rw (← is) (looked_up tickets slots places admitted sound ticket r there its)
@@ -311,7 +311,7 @@ module _ (old : Requests) (tickets : List Ticket) (slots : Slab Request) (places
       pub changed_requests : requests_of (requests_at (with_value slots ticket.key changed) tickets) places blocks admitted ≡ record old { waiting = with_request changed old.waiting }
       changed_requests = rw (← is) (ap (λ waiting. requests_of waiting places blocks admitted) (changed_all slots (with_value slots ticket.key changed) (the_request ticket old.waiting) changed there its writes tickets sound.stored))
 
-      pub changed_is_sound : IsSound tickets (with_value slots ticket.key changed) places admitted
+      pub changed_is_sound : QueueIsSound tickets (with_value slots ticket.key changed) places admitted
       changed_is_sound = changed_sound slots (with_value slots ticket.key changed) (the_request ticket old.waiting) changed there its writes tickets places admitted sound (same_len slots ticket.key (the_request ticket old.waiting) changed lies_there) refl
 
 -- ----------------------------------------------------------------------------------------------------------------
@@ -349,7 +349,7 @@ still_among (x ∷ xs) (suc i) (suc j) t within inside differs at =
     (suc rest.0, omega (arith, rest.1), rest.2)
 
 -- a ticket over a sound queue: it may be missing, or wait at an index and be removed there
-module _ (old : Requests) (tickets : List Ticket) (slots : Slab Request) (places blocks admitted : ℕ) (is : requests_of (requests_at slots tickets) places blocks admitted ≡ old) (sound : IsSound tickets slots places admitted) (ticket : Ticket) where
+module _ (old : Requests) (tickets : List Ticket) (slots : Slab Request) (places blocks admitted : ℕ) (is : requests_of (requests_at slots tickets) places blocks admitted ≡ old) (sound : QueueIsSound tickets slots places admitted) (ticket : Ticket) where
   module _ (differ : All (λ t. t ≢ ticket) tickets) where
     pub missing_request : request_of ticket old.waiting ≡ None
     missing_request = rw (← is) (missing slots tickets ticket sound.stored differ)
@@ -388,7 +388,7 @@ module _ (old : Requests) (tickets : List Ticket) (slots : Slab Request) (places
             (among.0, still_among tickets i among.1.0 t within among.1.1 other among.1.2)
       ]
 
-      pub removed_sound : slab_len later + 1 ≡ slab_len slots → later.capacity ≡ slots.capacity → IsSound rest later places admitted
+      pub removed_sound : slab_len later + 1 ≡ slab_len slots → later.capacity ≡ slots.capacity → QueueIsSound rest later places admitted
       removed_sound count capacity =
           rw removed (record {
             apart = all_pairs_remove Precedes tickets i within sound.apart;

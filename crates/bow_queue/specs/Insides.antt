@@ -32,7 +32,7 @@ abbrev pub HoldsNoOther : Slab Request → List Ticket → Type 0
 HoldsNoOther slots tickets = (key : ℕ) (t : Ticket) → ticket_at slots key ≡ Some t → (t.key ≡ key) × Contains tickets t
 
 -- each ticket has its request in the slab, which holds no other, and the slab has room for as many as there are places
-pub record IsSound (tickets : List Ticket) (slots : Slab Request) (places admitted : ℕ) : Type 0 where
+pub record QueueIsSound (tickets : List Ticket) (slots : Slab Request) (places admitted : ℕ) : Type 0 where
   pub apart : AllPairs Precedes tickets
   pub given_out : All (λ t. t.serial < admitted) tickets
   pub stored : AreStored slots tickets

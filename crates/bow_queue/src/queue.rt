@@ -31,7 +31,7 @@ pub struct Queue {
 
 impl Model for Queue {
     ghost use Rattle.bow_queue.specs.Requests.{Requests};
-    ghost use Rattle.bow_queue.specs.Insides.{requests_at, IsSound};
+    ghost use Rattle.bow_queue.specs.Insides.{requests_at, QueueIsSound};
 
     ghost Value = { Requests };
 
@@ -42,7 +42,7 @@ impl Model for Queue {
       admitted = q.admitted;
     } };
 
-    ghost invariant = { λ q. IsSound q.tickets.items q.requests q.places q.admitted };
+    ghost invariant = { λ q. QueueIsSound q.tickets.items q.requests q.places q.admitted };
 }
 
 // The index of this ticket.

@@ -16,7 +16,7 @@ use Rattle.bow_machine.specs.Steps.{Idle as ToldIdle, Moved as ToldMoved, Wrote 
 use Rattle.bow_machine.proofs.MappedWrites.{put_here, put_there}
 use Rattle.bow_core.specs.declared.turns.Step.{Step}
 use Rattle.bow_core.specs.declared.turns.Step.TheVariants.{Idle, Moved, Wrote, Got, Answered}
-use Rattle.bow_core.specs.declared.turns.Turn.{Turn as OwnTurn}
+use Rattle.bow_machine.specs.declared.turns.Turn.{Turn}
 use Rattle.bow_core.specs.Steps.{IsStep}
 use Rattle.bow_core.specs.Turns.{told_of}
 use Rattle.bow_core.specs.Views.{View}
@@ -80,7 +80,7 @@ module _ {D R : Type 0} (stated : D → Option Geometry) (content : D → Option
     (shaped : (d : D) (c : Content) → content d ≡ Some c → (z : Geometry) → stated d ≡ Some z → IsShaped z.block_size z.blocks c)
     (only_now : (d : D) (c : Content) → content d ≡ Some c → (t : ℕ) (image : List (List ℕ)) → moment d ≤ t → left d t image → IsCrash c.candidates image)
     (g : Geometry) (lanes : ℕ) (allowed : ℕ → ℕ) (table : TableId) (begins : View D → Type 0) (s : Service D R) (k : Serves stated content moment left faults g lanes allowed table begins s)
-    (own : OwnTurn) (tells : Step) (core : View D) (step : IsStep stated content moment left faults s.core own tells core) (of : IsTurnOf s.hands.items own) where
+    (own : Turn) (tells : Step) (core : View D) (step : IsStep stated content moment left faults s.core own tells core) (of : IsTurnOf s.hands.items own) where
   abbrev given : List (Entry Op Answer)
   given = s.server.view.given
 

@@ -21,16 +21,16 @@ use Rattle.bow_machine.specs.MemoryLaws.{CanHaveIt}
 use Rattle.bow_machine.specs.Requests.{Request, refusal, request_of as waiting_of}
 use Rattle.bow_machine.specs.Steps.{Told, call_of, extent_of}
 use Rattle.bow_machine.specs.Steps.{Idle as ToldIdle, Moved as ToldMoved, Wrote as ToldWrote, Got as ToldGot, Answered as ToldAnswered}
-use Rattle.bow_machine.specs.Tasks.{Map as MapTurn, task_of}
+use Rattle.bow_machine.specs.Tasks.{task_of}
 use Rattle.bow_machine.specs.Told.{ToldRow}
 use Rattle.bow_machine.proofs.MappedTests.{write_inside, read_inside}
 use Rattle.bow_machine.proofs.SoundTold.{steps_tell_so}
 use Rattle.bow_core.specs.declared.turns.Step.{Step}
 use Rattle.bow_core.specs.declared.turns.Step.TheVariants.{Idle, Moved, Wrote, Got, Answered}
-use Rattle.bow_core.specs.declared.turns.Turn.{Turn as OwnTurn}
-use Rattle.bow_core.specs.declared.turns.Turn.TheVariants as turns
+use Rattle.bow_machine.specs.declared.turns.Turn.{Turn}
+use Rattle.bow_machine.specs.declared.turns.Turn.TheVariants as turns
 use Rattle.bow_core.specs.Steps.{IsStep}
-use Rattle.bow_core.specs.Turns.{told_of, turn_of as machine_turn}
+use Rattle.bow_core.specs.Turns.{told_of}
 use Rattle.bow_core.specs.Views.{View}
 use Rattle.bow_history.specs.declared.items.Actor.{Actor}
 use Rattle.bow_history.specs.declared.items.Actor.TheVariants as actors
@@ -85,7 +85,7 @@ row_waits g now m (ToldGot t i) events after row =
 row_waits g now m (ToldAnswered t op outcome) events after row = (row.0, row.1, (row.2).0)
 
 -- the actor of a turn
-abbrev pub actor_for : (hands : List (Option Hand)) (own : OwnTurn) → IsTurnOf hands own → Actor
+abbrev pub actor_for : (hands : List (Option Hand)) (own : Turn) → IsTurnOf hands own → Actor
 actor_for hands (turns.Map ticket) of = actors.Lane of.0
 actor_for hands turns.Worker of = actors.Worker
 actor_for hands turns.Command of = actors.Command
@@ -209,13 +209,13 @@ module _ {D R : Type 0} (stated : D → Option Geometry) (content : D → Option
     ]
 
     -- the actor of a turn makes it
-    pub actor_may : (own : OwnTurn) (of : IsTurnOf hands own) → IsActor plan st (actor_for hands own of)
+    pub actor_may : (own : Turn) (of : IsTurnOf hands own) → IsActor plan st (actor_for hands own of)
     actor_may (turns.Map t) (lane, has) = (inside_hands lane t has, t, seat.tickets lane ∙ has)
     actor_may turns.Worker of = tt
     actor_may turns.Command of = tt
 
-    pub actor_turn : (own : OwnTurn) (of : IsTurnOf hands own) → turn_of st (actor_for hands own of) ≡ Some (machine_turn own)
-    actor_turn (turns.Map t) (lane, has) = ap (option_map MapTurn) (seat.tickets lane ∙ has)
+    pub actor_turn : (own : Turn) (of : IsTurnOf hands own) → turn_of st (actor_for hands own of) ≡ Some own
+    actor_turn (turns.Map t) (lane, has) = ap (option_map turns.Map) (seat.tickets lane ∙ has)
     actor_turn turns.Worker of = refl
     actor_turn turns.Command of = refl
 
@@ -333,39 +333,39 @@ module _ {D R : Type 0} (stated : D → Option Geometry) (content : D → Option
   -- ------------------------------------------------------------------------------------------------------------
   -- A step.
 
-  module _ (own : OwnTurn) (tells : Step) (core : View D) (step : IsStep stated content moment left faults s.core own tells core) (of : IsTurnOf hands own) where
+  module _ (own : Turn) (tells : Step) (core : View D) (step : IsStep stated content moment left faults s.core own tells core) (of : IsTurnOf hands own) where
     module _ (plan : Plan) (asks : AsksAtLeast g (asked_of lanes s.server.view.given s.server.view.jobs) plan) where
       abbrev turned : Turned
       turned = Steps (actor_for s.hands.items own of) step.reply
 
-      pub call_is : call_of_turn plan (st plan asks) (turn_of (st plan asks) (actor_for s.hands.items own of)) ≡ call_of s.core.geometry s.core.memory (task_of s.core.geometry s.core.memory (machine_turn own))
+      pub call_is : call_of_turn plan (st plan asks) (turn_of (st plan asks) (actor_for s.hands.items own of)) ≡ call_of s.core.geometry s.core.memory (task_of s.core.geometry s.core.memory own)
       call_is = ap (call_of_turn plan (st plan asks)) (actor_turn plan asks own of)
-          ∙ ap (λ (z : Geometry). call_of z (st plan asks).memory (task_of z (st plan asks).memory (machine_turn own))) (sizes_are plan asks)
-          ∙ ap (λ (m : Memory). call_of s.core.geometry m (task_of s.core.geometry m (machine_turn own))) (memory plan asks)
+          ∙ ap (λ (z : Geometry). call_of z (st plan asks).memory (task_of z (st plan asks).memory own)) (sizes_are plan asks)
+          ∙ ap (λ (m : Memory). call_of s.core.geometry m (task_of s.core.geometry m own)) (memory plan asks)
 
       pub may : IsTurn plan (st plan asks) (Steps (actor_for s.hands.items own of) step.reply)
       may = (
         actor_may plan asks own of,
         subst (λ o. CanHaveIt plan.sizes o step.reply) (sym call_is)
-            (subst (λ z. CanHaveIt z (call_of s.core.geometry s.core.memory (task_of s.core.geometry s.core.memory (machine_turn own))) step.reply) (sym (sizes_are plan asks)) (can_have s.core.geometry _ step.reply (step.made).may)),
+            (subst (λ z. CanHaveIt z (call_of s.core.geometry s.core.memory (task_of s.core.geometry s.core.memory own)) step.reply) (sym (sizes_are plan asks)) (can_have s.core.geometry _ step.reply (step.made).may)),
       )
 
       pub item_is : item_in plan (st plan asks) (Steps (actor_for s.hands.items own of) step.reply) ≡ item_of plan (st plan asks) (told_of tells)
       item_is = ap (λ o. item_of_turn plan (st plan asks) o step.reply) (actor_turn plan asks own of)
-          ∙ ap (λ (z : Geometry). item_of plan (st plan asks) (device_step z (st plan asks).memory (machine_turn own) step.reply).told) (sizes_are plan asks)
-          ∙ ap (λ (m : Memory). item_of plan (st plan asks) (device_step s.core.geometry m (machine_turn own) step.reply).told) (memory plan asks)
+          ∙ ap (λ (z : Geometry). item_of plan (st plan asks) (device_step z (st plan asks).memory own step.reply).told) (sizes_are plan asks)
+          ∙ ap (λ (m : Memory). item_of plan (st plan asks) (device_step s.core.geometry m own step.reply).told) (memory plan asks)
           ∙ ap (item_of plan (st plan asks)) (sym step.told)
 
       pub after_is : after_turn plan (st plan asks) (Steps (actor_for s.hands.items own of) step.reply) ≡ told_to plan (record (st plan asks) { memory = core.memory }) (told_of tells)
       after_is = ap (λ o. after_turn_of plan (st plan asks) o step.reply) (actor_turn plan asks own of)
-          ∙ ap (λ (z : Geometry). told_to plan (record (st plan asks) { memory = (device_step z (st plan asks).memory (machine_turn own) step.reply).memory }) (device_step z (st plan asks).memory (machine_turn own) step.reply).told) (sizes_are plan asks)
-          ∙ ap (λ (m : Memory). told_to plan (record (st plan asks) { memory = (device_step s.core.geometry m (machine_turn own) step.reply).memory }) (device_step s.core.geometry m (machine_turn own) step.reply).told) (memory plan asks)
-          ∙ ap (λ (t : Told). told_to plan (record (st plan asks) { memory = (device_step s.core.geometry s.core.memory (machine_turn own) step.reply).memory }) t) (sym step.told)
+          ∙ ap (λ (z : Geometry). told_to plan (record (st plan asks) { memory = (device_step z (st plan asks).memory own step.reply).memory }) (device_step z (st plan asks).memory own step.reply).told) (sizes_are plan asks)
+          ∙ ap (λ (m : Memory). told_to plan (record (st plan asks) { memory = (device_step s.core.geometry m own step.reply).memory }) (device_step s.core.geometry m own step.reply).told) (memory plan asks)
+          ∙ ap (λ (t : Told). told_to plan (record (st plan asks) { memory = (device_step s.core.geometry s.core.memory own step.reply).memory }) t) (sym step.told)
           ∙ ap (λ (m : Memory). told_to plan (record (st plan asks) { memory = m }) (told_of tells)) (sym step.memory)
 
     pub waits : IsOfWaiting s.core.geometry s.core.memory (told_of tells)
     waits = subst (IsOfWaiting s.core.geometry s.core.memory) (sym step.told)
-        (row_waits s.core.geometry unknown s.core.memory _ _ _ (steps_tell_so s.core.geometry s.core.memory (machine_turn own) step.reply unknown sound_memory (can_have s.core.geometry _ step.reply (step.made).may)))
+        (row_waits s.core.geometry unknown s.core.memory _ _ _ (steps_tell_so s.core.geometry s.core.memory own step.reply unknown sound_memory (can_have s.core.geometry _ step.reply (step.made).may)))
 
     -- where an item comes, it has room
     item_room : (item : Item) → item_of plan_now (st plan_now asks_now) (told_of tells) ≡ Some item → length s.journal.items < 17 * over_lanes allowed lanes

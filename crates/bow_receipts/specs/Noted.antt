@@ -5,8 +5,8 @@ use Rattle.bow_units.specs.declared.requests.Outcome.{Outcome}
 use Rattle.bow_queue.specs.declared.tickets.Ticket.{Ticket}
 use Rattle.bow_core.specs.declared.turns.Step.{Step}
 use Rattle.bow_core.specs.declared.turns.Step.TheVariants.{Idle, Moved, Wrote, Got, Answered}
-use Rattle.bow_core.specs.declared.turns.Turn.{Turn}
-use Rattle.bow_core.specs.declared.turns.Turn.TheVariants as turns
+use Rattle.bow_machine.specs.declared.turns.Turn.{Turn}
+use Rattle.bow_machine.specs.declared.turns.Turn.TheVariants as turns
 use Rattle.bow_history.specs.declared.items.Item.TheVariants as items
 use Rattle.bow_tags.specs.Rule.{In}
 use Rattle.bow_tags.specs.Steps.{HoldsJob, after_answer, held}

@@ -4,7 +4,7 @@ use mathlib.Core.Path.{fun_ext}
 use Rattle.std.specs.Prelude.{slice_index_or, MatchOption}
 use Rattle.bow_units.specs.declared.sizes.Geometry.{Geometry}
 use Rattle.bow_log.specs.Generations.{Backup, IsBackup}
-use Rattle.bow_disk.specs.Disk.{Content, Goes, Holds, Same, Offered, Written, IsCrash}
+use Rattle.bow_disk.specs.Disk.{Content, Goes, ReadsAs, Same, Offered, Written, IsCrash}
 use Rattle.bow_chain.specs.Contents.{Contents, contents_of, with_block}
 use Rattle.bow_restore.specs.Copies.{Copy, run_copies, copied}
 use Rattle.bow_restore.specs.Replaying.{CopiedBack, IsCutBeside}
@@ -54,7 +54,7 @@ cut_written g b n at v c d e cut fits below at_is back given crash x on out =
 
 -- a read and a write that succeed copy one block more
 pub block_back : {T : Type 0} (content : T → Option Content) (g : Geometry) (b : Backup) (n from at : ℕ) (v : List ℕ) (k : Content) (before read after : T) → ((m : Content) → content read ≡ Some m → Fits g m) → IsBackup g b → n < b.count → from ≡ b.dest + n → at ≡ b.source + n
-    → Tells content (CopiedBack b n k) before → Goes Same (content before) (content read) → MatchOption (content before) (Unit {0}) (Holds from v) → Goes (Written at v) (content read) (content after) → Tells content (CopiedBack b (n + 1) k) after
+    → Tells content (CopiedBack b n k) before → Goes Same (content before) (content read) → MatchOption (content before) (Unit {0}) (ReadsAs from v) → Goes (Written at v) (content read) (content after) → Tells content (CopiedBack b (n + 1) k) after
 block_back content g b n from at v k before read after fit ok below from_is at_is old same gives written =
     let m = goes_told content Same before read old.told old.is same in
     let d = goes_told content (Written at v) read after m.told m.is written in

@@ -1,7 +1,7 @@
 -- Calls of a disk that tells its content, one after the other.
 use Rattle.std.proofs.Common.{ℕ, ◌<◌, ◌≡◌, List, Option, None, Some, Result, Ok, Err, OnOk, sym, ap, ◌∙◌, subst, ◌⊎◌, inl, inr}
 use Rattle.bow_units.specs.declared.sizes.Geometry.{Geometry}
-use Rattle.bow_disk.specs.Disk.{Content, Same, Offered, Written, WriteStep, FlushStep, Flushed, KeepsSizes, Holds, HasBlock}
+use Rattle.bow_disk.specs.Disk.{Content, Same, Offered, Written, WriteStep, FlushStep, Flushed, KeepsSizes, ReadsAs, HasBlock}
 use Rattle.std.specs.Prelude.{MatchOption}
 use Rattle.std.specs.Result.{is_err}
 use Rattle.std.proofs.Common.{false}
@@ -18,7 +18,7 @@ given (Ok x) b v old new h = inr (inr h)
 given (Err e) b v old new h = h
 
 -- what a read gave
-pub read_told : (o : Option Content) (at : ℕ) (v : List ℕ) (c : Content) → o ≡ Some c → MatchOption o (Unit {0}) (Holds at v) → v ≡ contents_of c.now at
+pub read_told : (o : Option Content) (at : ℕ) (v : List ℕ) (c : Content) → o ≡ Some c → MatchOption o (Unit {0}) (ReadsAs at v) → v ≡ contents_of c.now at
 read_told None at v c is h = absurd cc
 read_told (Some o) at v c is h = sym h ∙ ap (λ (k : Content). contents_of k.now at) (some_same o c is)
 

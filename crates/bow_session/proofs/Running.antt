@@ -9,7 +9,7 @@ use Rattle.bow_units.specs.declared.sizes.Geometry.{Geometry}
 use Rattle.bow_disk.specs.Disk.{Content, IsShaped, Goes}
 use Rattle.bow_machine.specs.Calls.{Call, Reply, Failed, Succeeded, calls_in}
 use Rattle.bow_machine.specs.MemoryLaws.{IsOnDevice}
-use Rattle.bow_machine.specs.Tasks.{Turn}
+use Rattle.bow_machine.specs.declared.turns.Turn.{Turn}
 use Rattle.bow_machine.proofs.SoundCalls.{calls_are_on_device}
 use Rattle.bow_core.specs.Calls.{DoesOne, HasFault}
 use Rattle.bow_core.specs.Views.{View}

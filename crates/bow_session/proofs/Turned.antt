@@ -18,14 +18,14 @@ use Rattle.bow_machine.specs.Calls.{Call, Reply}
 use Rattle.bow_machine.specs.MemoryLaws.{CanHaveIt}
 use Rattle.bow_machine.specs.Steps.{Told, Step as MachineStep}
 use Rattle.bow_machine.specs.Steps.{Idle as ToldIdle, Moved as ToldMoved, Wrote as ToldWrote, Got as ToldGot, Answered as ToldAnswered}
-use Rattle.bow_machine.specs.Tasks.{Turn}
+use Rattle.bow_machine.specs.declared.turns.Turn.{Turn}
 use Rattle.bow_machine.specs.Told.{ToldRow}
 use Rattle.bow_core.specs.Ports.{Makes}
 use Rattle.bow_machine.proofs.SoundTold.{steps_tell_so}
 use Rattle.bow_core.specs.declared.turns.Step.{Step}
 use Rattle.bow_core.specs.declared.turns.Step.TheVariants.{Idle, Moved, Wrote, Got, Answered}
-use Rattle.bow_core.specs.declared.turns.Turn.{Turn as OwnTurn}
-use Rattle.bow_core.specs.Turns.{told_of, turn_of as machine_turn}
+use Rattle.bow_machine.specs.declared.turns.Turn.{Turn as OwnTurn}
+use Rattle.bow_core.specs.Turns.{told_of}
 use Rattle.bow_core.specs.Calls.{RepliesTo}
 use Rattle.bow_core.specs.Steps.{IsStep}
 use Rattle.bow_core.specs.Views.{View}
@@ -180,7 +180,7 @@ one_each (Some item) x = refl
 
 module _ {D R : Type 0} (stated : D → Option Geometry) (content : D → Option Content) (moment : D → ℕ) (left : D → ℕ → List (List ℕ) → Type 0) (faults : D → ℕ)
     (s : Desk D R) (k : Fits s) (own : OwnTurn) (tells : Step) (core : View D) (step : IsStep stated content moment left faults s.core own tells core)
-    (actor : Actor) (is_actor : IsActor (plan_in (run_of s)) (state_in (run_of s)) actor) (is_turn : turn_of (state_in (run_of s)) actor ≡ Some (machine_turn own)) where
+    (actor : Actor) (is_actor : IsActor (plan_in (run_of s)) (state_in (run_of s)) actor) (is_turn : turn_of (state_in (run_of s)) actor ≡ Some own) where
   abbrev plan : Plan
   plan = plan_of s.core.geometry s.script
 
@@ -194,12 +194,12 @@ module _ {D R : Type 0} (stated : D → Option Geometry) (content : D → Option
   turned = Steps actor step.reply
 
   abbrev does : MachineStep
-  does = device_step s.core.geometry s.core.memory (machine_turn own) step.reply
+  does = device_step s.core.geometry s.core.memory own step.reply
 
   pub may : IsTurn plan st turned
   may = (is_actor, subst (λ o. CanHaveIt plan.sizes (call_of_turn plan st o) step.reply) (sym is_turn) (can_have s.core.geometry _ step.reply (step.made).may))
 
-  after_is : after_turn plan st turned ≡ after_step plan st (device_step s.core.geometry s.core.memory (machine_turn own) step.reply)
+  after_is : after_turn plan st turned ≡ after_step plan st (device_step s.core.geometry s.core.memory own step.reply)
   after_is = ap (λ o. after_turn_of plan st o step.reply) is_turn
 
   item_is : item_in plan st turned ≡ item_of plan st (told_of tells)
@@ -210,7 +210,7 @@ module _ {D R : Type 0} (stated : D → Option Geometry) (content : D → Option
 
   waits : IsOfWaiting s.core.memory (told_of tells)
   waits = subst (IsOfWaiting s.core.memory) (sym step.told)
-      (row_waits s.core.geometry unknown s.core.memory _ _ _ (steps_tell_so s.core.geometry s.core.memory (machine_turn own) step.reply unknown (k.sound).memory (can_have s.core.geometry _ step.reply (step.made).may)))
+      (row_waits s.core.geometry unknown s.core.memory _ _ _ (steps_tell_so s.core.geometry s.core.memory own step.reply unknown (k.sound).memory (can_have s.core.geometry _ step.reply (step.made).may)))
 
   seat_of : (t : Ticket) (r : Request) → request_of t s.core.memory.requests ≡ Some r → HasSeat s.records.seats.items t
   seat_of t r found = has_seat plan s.core.memory s.core.admitted s.records.seats.items k.sound lanes t r found
@@ -262,8 +262,8 @@ module _ {D R : Type 0} (stated : D → Option Geometry) (content : D → Option
     pub state_after : state_in (run_of now) ≡ after_turn plan st turned
     state_after =
         ap (λ g. seated (plan_of g s.script) core.memory core.admitted (map lane_in rec.seats.items)) step.geometry ∙ ap (λ n. seated plan core.memory n (map lane_in rec.seats.items)) step.admitted ∙ ap (λ m. seated plan m s.core.admitted (map lane_in rec.seats.items)) step.memory
-        ∙ told_lanes plan (device_step s.core.geometry s.core.memory (machine_turn own) step.reply).memory s.core.admitted s.records.seats.items rec.seats.items tells lanes some seats
-        ∙ ap (told_to plan (record st { memory = (device_step s.core.geometry s.core.memory (machine_turn own) step.reply).memory })) step.told ∙ sym after_is
+        ∙ told_lanes plan (device_step s.core.geometry s.core.memory own step.reply).memory s.core.admitted s.records.seats.items rec.seats.items tells lanes some seats
+        ∙ ap (told_to plan (record st { memory = (device_step s.core.geometry s.core.memory own step.reply).memory })) step.told ∙ sym after_is
 
     pub one_turn : IsOneTurn stated content moment left faults (run_of s) turned (run_of now)
     one_turn = record {

@@ -1,7 +1,6 @@
 // The parts of a session at work: the device, the script, and what is kept beside them.
 ghost use Rattle.std.specs.Prelude.{◌≡◌, ◌+◌, ◌<◌, ◌≤◌, ℕ, List, length, true, false, None, Some};
 ghost use Rattle.std.specs.Option.{option_map};
-ghost use Rattle.bow_core.specs.Turns.{turn_of as machine_turn};
 ghost use Rattle.bow_history.specs.declared.items.Actor.{Actor};
 ghost use Rattle.bow_history.specs.declared.items.Actor.TheVariants.{Lane};
 ghost use Rattle.bow_history.specs.Ready.{is_actor_ready};
@@ -187,10 +186,10 @@ impl<D: Disk, R: Ranges + Drop> Desk<D, R> {
     fn go_on(&mut self, turn: Turn)
         requires fits { Fits self.old }
         requires actor { (actor : Actor) × IsActor (plan_in (run_of self.old)) (state_in (run_of self.old)) actor
-            × (turn_of (state_in (run_of self.old)) actor ≡ Some (machine_turn turn)) }
+            × (turn_of (state_in (run_of self.old)) actor ≡ Some turn) }
         ensures fits { Fits self.new }
         ensures turn { (actor : Actor) → IsActor (plan_in (run_of self.old)) (state_in (run_of self.old)) actor
-            → turn_of (state_in (run_of self.old)) actor ≡ Some (machine_turn turn)
+            → turn_of (state_in (run_of self.old)) actor ≡ Some turn
             → StepsBy D.stated D.content D.moment D.left_since D.faults (run_of self.old) actor (run_of self.new) }
     {
         let told = self.core.step(turn);

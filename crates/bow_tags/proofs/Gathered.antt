@@ -11,7 +11,7 @@ use Rattle.bow_tags.specs.declared.view.View.{View}
 use Rattle.bow_tags.specs.Rule.{In, given_times}
 use Rattle.bow_tags.specs.Steps.{lane_of, looked, joined, SpeaksForIdle}
 use Rattle.bow_tags.specs.Seats.{Sitting, IsLaneSeat, stance_if, AllIdle}
-use Rattle.bow_tags.specs.Gathering.{Among, Keeps, HasLane, Gathers, CountsGiven}
+use Rattle.bow_tags.specs.Gathering.{Among, KeepsMembers, HasLane, Gathers, CountsGiven}
 use Rattle.bow_tags.proofs.Lists.{times-append, total_append, head_at, at_short}
 
 pub in_left : {A : Type 0} (x : A) (xs ys : List A) → In x xs → In x (xs ++ ys)
@@ -45,11 +45,11 @@ module _ {P Q : Type 0} where
   among_snoc part x ss t (i, s, at, h) = ⊎_elim (λ old. inl (i, s, old, h)) (λ is. inr (subst (λ (z : Sitting P Q). In x (part z.view)) (sym is) h)) (at_snoc ss t s i at)
 
   keeps_more : {A : Type 0} (part : View P Q → List A) (u : View P Q) (ss : List (Sitting P Q)) (t : Sitting P Q) (v w : View P Q)
-      → Keeps part u ss v → ((x : A) → In x (part v) → In x (part w)) → ((x : A) → In x (part t.view) → In x (part w)) → Keeps part u (ss ++ t ∷ []) w
+      → KeepsMembers part u ss v → ((x : A) → In x (part v) → In x (part w)) → ((x : A) → In x (part t.view) → In x (part w)) → KeepsMembers part u (ss ++ t ∷ []) w
   keeps_more part u ss t v w k old new x (inl h) = old x (k x (inl h))
   keeps_more part u ss t v w k old new x (inr h) = ⊎_elim (λ a. old x (k x (inr a))) (λ a. new x a) (among_snoc part x ss t h)
 
-  keeps_start : {A : Type 0} (part : View P Q → List A) (v : View P Q) → Keeps part v [] v
+  keeps_start : {A : Type 0} (part : View P Q → List A) (v : View P Q) → KeepsMembers part v [] v
   keeps_start part v x (inl h) = h
   keeps_start part v x (inr h) = absurd (some-ne-none h.1 (sym h.2))
 

@@ -19,8 +19,8 @@ module _ {P Q : Type 0} where
   Among part x ss = (i : ℕ) × (s : Sitting P Q) × (get_elem? ss i ≡ some s) × In x (part s.view)
 
   -- the view v has in this list all that u and these seats have in theirs
-  abbrev pub Keeps : {A : Type 0} → (View P Q → List A) → View P Q → List (Sitting P Q) → View P Q → Type 0
-  Keeps {A} part u ss v = (x : A) → In x (part u) ⊎ Among part x ss → In x (part v)
+  abbrev pub KeepsMembers : {A : Type 0} → (View P Q → List A) → View P Q → List (Sitting P Q) → View P Q → Type 0
+  KeepsMembers {A} part u ss v = (x : A) → In x (part u) ⊎ Among part x ss → In x (part v)
 
   -- the view v has the lane of this seat, which is not in the middle of a post
   abbrev pub HasLane : View P Q → Sitting P Q → Type 0
@@ -34,11 +34,11 @@ module _ {P Q : Type 0} where
   pub record Gathers (u : View P Q) (ss : List (Sitting P Q)) (v : View P Q) : Type 0 where
     pub live : v.live ≡ true
     pub bare : v.hand ≡ []
-    pub lanes : Keeps (λ w. w.lanes) u ss v
-    pub jobs : Keeps (λ w. w.jobs) u ss v
-    pub got : Keeps (λ w. w.got) u ss v
-    pub given : Keeps (λ w. w.given) u ss v
-    pub speaks : Keeps (λ w. w.speaks) u ss v
+    pub lanes : KeepsMembers (λ w. w.lanes) u ss v
+    pub jobs : KeepsMembers (λ w. w.jobs) u ss v
+    pub got : KeepsMembers (λ w. w.got) u ss v
+    pub given : KeepsMembers (λ w. w.given) u ss v
+    pub speaks : KeepsMembers (λ w. w.speaks) u ss v
 
   -- each entry stands among what v has given as often as in u and these seats together
   abbrev pub CountsGiven : View P Q → List (Sitting P Q) → View P Q → Type 0

@@ -20,7 +20,8 @@ use Rattle.bow_machine.specs.Calls.{Call, Reply, Failed}
 use Rattle.bow_machine.specs.MemoryLaws.{CanHaveIt, FaultIsTold, IsFaulted, served_by}
 use Rattle.bow_machine.specs.Standing.{IsStanding}
 use Rattle.bow_machine.specs.Steps.{call_of}
-use Rattle.bow_machine.specs.Tasks.{Turn, task_of}
+use Rattle.bow_machine.specs.Tasks.{task_of}
+use Rattle.bow_machine.specs.declared.turns.Turn.{Turn}
 use Rattle.bow_machine.proofs.SoundCalls.{faults_are_told}
 use Rattle.bow_core.specs.Standing.{StandsIn}
 use Rattle.bow_core.specs.Views.{View}

@@ -5,7 +5,8 @@ use Rattle.bow_units.specs.declared.requests.Outcome.TheVariants as outcomes
 use Rattle.bow_machine.specs.MemoryIsSound.{MemoryIsSound}
 use Rattle.bow_machine.specs.Requests.{Request, request_of}
 use Rattle.bow_machine.specs.Steps.{answered_for, extent_of}
-use Rattle.bow_machine.specs.Tasks.{Answers, Worker, head, needs_worker, task_of}
+use Rattle.bow_machine.specs.Tasks.{Answers, head, needs_worker, task_of}
+use Rattle.bow_machine.specs.declared.turns.Turn.TheVariants.{Worker}
 use Rattle.bow_machine.proofs.SoundTasks.{TaskIsSound}
 use Rattle.bow_machine.proofs.SoundTurns.{worker_sound}
 use Rattle.bow_core.specs.Batches.{IsBatching, IsFormed}

@@ -1,7 +1,7 @@
 use Rattle.std.proofs.Common.{◌<◌, length, refl, ap, arith}
 use Rattle.std.specs.Option.{option_map}
 use Rattle.std.proofs.lemmas.Option.{slice_get_read}
-use Rattle.bow_machine.specs.Tasks.{Map}
+use Rattle.bow_machine.specs.declared.turns.Turn.TheVariants.{Map}
 use Rattle.bow_history.specs.declared.items.Actor.TheVariants.{Lane}
 use Rattle.bow_session.specs.Desks.{run_of}
 use Rattle.bow_session.specs.Sessions.{state_in}
