@@ -14,7 +14,8 @@ use Rattle.bow_machine.specs.Steps.{Step, moved, answered_for, act_step, call_in
 use Rattle.bow_machine.specs.Tasks.{Task, Acts}
 use Rattle.bow_core.specs.Held.{hand_of, prepare_of, commit_of}
 use Rattle.bow_core.specs.Ports.{Makes}
-use Rattle.bow_core.specs.Steps.{IsDone, unknown}
+use Rattle.bow_core.specs.Steps.{IsDone}
+use Rattle.bow_machine.specs.Steps.{unknown}
 use Rattle.bow_core.specs.Turns.{told_of}
 use Rattle.bow_core.specs.declared.turns.Step.{Step as Inside}
 use Rattle.bow_core.specs.declared.turns.Step.TheVariants as inside

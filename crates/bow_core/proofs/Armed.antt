@@ -22,7 +22,7 @@ use Rattle.bow_machine.specs.Steps.{first_log, copy_entry, log_or_blank, act_ste
 use Rattle.bow_machine.specs.Tasks.{Acts, command_task, spelling}
 use Rattle.bow_machine.specs.declared.turns.Turn.TheVariants.{Command}
 use Rattle.bow_machine.proofs.SoundSteps.{step_keeps_sound}
-use Rattle.bow_core.specs.Steps.{unknown}
+use Rattle.bow_machine.specs.Steps.{unknown}
 use Rattle.bow_core.specs.Held.{hand_of, prepare_of}
 use Rattle.bow_core.specs.Inside.{LogFits, SavedIs, is_saved}
 use Rattle.bow_core.proofs.Saved.{saved_to}

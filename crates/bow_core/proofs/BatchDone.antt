@@ -21,7 +21,8 @@ use Rattle.bow_core.specs.Batches.{batch_in_hand, gone_on, let_go}
 use Rattle.bow_core.specs.Calls.{read_reply}
 use Rattle.bow_core.specs.Held.{hand_of, slots_in, slots_of}
 use Rattle.bow_core.specs.Ports.{Makes}
-use Rattle.bow_core.specs.Steps.{IsDone, unknown}
+use Rattle.bow_core.specs.Steps.{IsDone}
+use Rattle.bow_machine.specs.Steps.{unknown}
 use Rattle.bow_core.specs.Turns.{told_of}
 use Rattle.bow_core.specs.declared.turns.Step.{Step as Inside}
 use Rattle.bow_core.specs.declared.turns.Step.TheVariants as inside

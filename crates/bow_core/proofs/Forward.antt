@@ -26,7 +26,8 @@ use Rattle.bow_machine.proofs.GoesForward.{flush_goes_forward, admit_goes_forwar
 use Rattle.bow_machine.specs.Requests.{Request}
 use Rattle.bow_core.specs.Calls.{DoesOne, Passes, calls_in}
 use Rattle.bow_core.specs.Standing.{StandsOver, StandsIn}
-use Rattle.bow_core.specs.Steps.{IsStep, unknown, call_in}
+use Rattle.bow_core.specs.Steps.{IsStep, call_in}
+use Rattle.bow_machine.specs.Steps.{unknown}
 use Rattle.bow_core.specs.Turns.{told_of}
 use Rattle.bow_core.specs.Views.{View, IsOpened}
 use Rattle.bow_machine.specs.declared.turns.Turn.{Turn}

@@ -23,7 +23,8 @@ use Rattle.bow_machine.proofs.SoundSteps.{step_keeps_sound}
 use Rattle.bow_machine.proofs.SoundOpenings.{admit_keeps_sound}
 use Rattle.bow_core.specs.Held.{Held}
 use Rattle.bow_core.specs.Views.{View, view_of, IsGivenOut, IsOpened}
-use Rattle.bow_core.specs.Steps.{IsStep, done_by, unknown}
+use Rattle.bow_core.specs.Steps.{IsStep, done_by}
+use Rattle.bow_machine.specs.Steps.{unknown}
 use Rattle.bow_machine.specs.declared.turns.Turn.{Turn as OwnTurn}
 use Rattle.bow_core.specs.declared.turns.Step.{Step as OwnStep}
 use Rattle.bow_core.proofs.Replies.{can_have}

@@ -27,7 +27,8 @@ use Rattle.bow_machine.proofs.Whole.{step_keeps}
 use Rattle.bow_machine.proofs.Cuts.{machine_cut}
 use Rattle.bow_core.specs.Calls.{DoesOne, Passes, calls_in, HasFault, StaysWithout, Counted}
 use Rattle.bow_core.specs.Standing.{StandsOver, StandsIn, Leads, seen, step_seen, state_after}
-use Rattle.bow_core.specs.Steps.{IsStep, HasFailed, FailureIsTold, done_by, unknown, task_in, call_in}
+use Rattle.bow_core.specs.Steps.{IsStep, HasFailed, FailureIsTold, done_by, task_in, call_in}
+use Rattle.bow_machine.specs.Steps.{unknown}
 use Rattle.bow_core.specs.Turns.{told_of}
 use Rattle.bow_core.specs.Views.{View, IsOpened}
 use Rattle.bow_machine.specs.declared.turns.Turn.{Turn}

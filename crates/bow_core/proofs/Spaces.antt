@@ -26,7 +26,8 @@ use Rattle.bow_machine.proofs.RequestLists.{find_has, found_ticket}
 use Rattle.bow_machine.proofs.SoundSpace.{no_space_is_exact, prepare_space_is_exact}
 use Rattle.bow_machine.proofs.SoundTold.{steps_tell_so}
 use Rattle.bow_core.specs.Room.{FindsNoSpace}
-use Rattle.bow_core.specs.Steps.{done_by, unknown}
+use Rattle.bow_core.specs.Steps.{done_by}
+use Rattle.bow_machine.specs.Steps.{unknown}
 use Rattle.bow_machine.specs.declared.turns.Turn.{Turn}
 use Rattle.bow_machine.specs.declared.turns.Turn.TheVariants as turns
 use Rattle.bow_core.proofs.Telling.{acts_tell}

@@ -8,7 +8,7 @@ use Rattle.bow_machine.specs.Requests.{Request, request_of}
 use Rattle.bow_machine.specs.Memory.{Memory, Hand, Empty, Batching, Preparing, Committing, ReadsBlock0, WritesCurrent, WritesBackup, FlushesCopies, WritesFirstLog, FlushesFirstLog, FlushesAll, ReadsCurrent, WritesBlock0, FlushesDecision}
 use Rattle.bow_machine.specs.Calls.{Reply, Failed, Succeeded, Gave}
 use Rattle.bow_machine.specs.Steps.{Told, Moved, Answered, answered_for, act_step}
-use Rattle.bow_core.specs.Steps.{unknown}
+use Rattle.bow_machine.specs.Steps.{unknown}
 
 -- An act tells that it moved, that a command is done, or of a fault: so it tells what all of these are.
 module _ (P : Told → Type 0) (moves : P Moved) (faults : (r : Request) (n : ℕ) → P (Answered r.ticket r.op (DiskFault n))) (ends : (r : Request) → P (Answered r.ticket r.op Done)) where

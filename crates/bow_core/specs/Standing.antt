@@ -14,7 +14,8 @@ use Rattle.bow_machine.specs.Steps.{Step, step_of}
 use Rattle.bow_machine.specs.declared.turns.Turn.{Turn}
 use Rattle.bow_core.specs.declared.turns.Step.{Step as OwnStep}
 use Rattle.bow_core.specs.Turns.{told_of}
-use Rattle.bow_core.specs.Steps.{task_in, unknown}
+use Rattle.bow_core.specs.Steps.{task_in}
+use Rattle.bow_machine.specs.Steps.{unknown}
 use Rattle.bow_core.specs.Views.{View}
 
 -- memory over a disk that tells its content stands for the state; over one that tells nothing it stands for none

@@ -2,13 +2,12 @@
 use Rattle.std.specs.Prelude.{◌≡◌, ◌↔◌, ℕ, true, List, [], Option, Some}
 use Rattle.bow_units.specs.declared.sizes.Geometry.{Geometry}
 use Rattle.bow_disk.specs.Disk.{Content}
-use Rattle.bow_chain.specs.Contents.{Contents}
 use Rattle.bow_machine.specs.Memory.{Memory}
 use Rattle.bow_machine.specs.MemoryIsSound.{MemoryIsSound}
 use Rattle.bow_machine.specs.Calls.{Call, Reply, Failed}
 use Rattle.bow_machine.specs.MemoryLaws.{tells_fault}
 use Rattle.bow_machine.specs.Tasks.{Task, task_of}
-use Rattle.bow_machine.specs.Steps.{Step, call_of, step_of}
+use Rattle.bow_machine.specs.Steps.{Step, call_of, step_of, unknown}
 use Rattle.bow_machine.specs.declared.turns.Turn.{Turn}
 use Rattle.bow_core.specs.declared.turns.Step.{Step as OwnStep}
 use Rattle.bow_core.specs.Turns.{told_of}
@@ -16,10 +15,6 @@ use Rattle.bow_core.specs.Ports.{Makes}
 use Rattle.bow_core.specs.Views.{View}
 use Rattle.bow_core.specs.Held.{Held, with_memory}
 use Rattle.bow_core.specs.declared.ports.Port.{Port}
-
--- what stands for the contents of the disk where nothing depends on them: memory, and what is told, never do
-abbrev pub unknown : Contents
-unknown = λ b. []
 
 -- the step of a task by a reply, over any disk
 abbrev pub done_by : Geometry → Memory → Task → Reply → Step

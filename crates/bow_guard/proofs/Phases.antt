@@ -12,7 +12,7 @@ use Rattle.bow_chain.specs.Kept.{IsPlain, Keeps, Holds}
 use Rattle.bow_chain.specs.Counting.{InUse}
 use Rattle.bow_guard.specs.Cuts.{Candidates, IsCut}
 use Rattle.bow_guard.specs.Device.{Device, Steady, Safe}
-use Rattle.bow_guard.specs.Standing.{Shows, StandsIn, StandsFor, HasCheckpointIn}
+use Rattle.bow_guard.specs.Standing.{Shows, StandsInPhase, StandsFor, HasCheckpointIn}
 use Rattle.bow_guard.specs.Phases.{IsPending, IsArming, IsDeciding, Leaves}
 use Rattle.bow_guard.proofs.Device.{one_of, some_block, firm_cut, guarded_cut}
 
@@ -104,7 +104,7 @@ module _ (g : Geometry) where
   pub cut_stands : (f : Flat) (d : Device) (image : Contents) (content : List ℕ) → 0 < g.blocks → IsState f → Leaves g f.phase f content d → IsCut g d.may image → StandsFor g f image
   cut_stands f d image content some valid leaves cut = go f.phase refl leaves
     where
-      go : (p : Phase) → f.phase ≡ p → Leaves g p f content d → StandsIn g p f image
+      go : (p : Phase) → f.phase ≡ p → Leaves g p f content d → StandsInPhase g p f image
       go Trim is l = pending_cut f d.may image some valid l cut
       go Arming is l = arming_cut f d image valid is l cut
       go Checkpoint is l = guarded_cut g f.used f.saved d image l cut

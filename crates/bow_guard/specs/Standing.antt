@@ -15,22 +15,22 @@ pub record Shows (g : Geometry) (known : ℕ → Option (List (List ℕ))) (imag
   pub each : (b : ℕ) → b < g.blocks → May (known b) (image b)
 
 -- what an image stands for in this phase
-abbrev pub StandsIn : Geometry → Phase → Flat → Contents → Type 0
-StandsIn g Trim f image = Shows g f.pending image
-StandsIn g Arming f image = Shows g f.pending image ⊎ Keeps g f.used f.saved image
-StandsIn g Checkpoint f image = Keeps g f.used f.saved image
-StandsIn g Deciding f image = Keeps g f.used f.saved image ⊎ Shows g f.current image
-StandsIn g Committed f image = Shows g f.pending image
+abbrev pub StandsInPhase : Geometry → Phase → Flat → Contents → Type 0
+StandsInPhase g Trim f image = Shows g f.pending image
+StandsInPhase g Arming f image = Shows g f.pending image ⊎ Keeps g f.used f.saved image
+StandsInPhase g Checkpoint f image = Keeps g f.used f.saved image
+StandsInPhase g Deciding f image = Keeps g f.used f.saved image ⊎ Shows g f.current image
+StandsInPhase g Committed f image = Shows g f.pending image
 
 -- the image stands for the flat state
 abbrev pub StandsFor : Geometry → Flat → Contents → Type 0
-StandsFor g f image = StandsIn g f.phase f image
+StandsFor g f image = StandsInPhase g f.phase f image
 
 -- the image holds the checkpoint that the flat state has: in arming and in checkpoint each that stands for it, in
 -- deciding each that keeps it
 abbrev pub HasCheckpointIn : Geometry → Phase → Flat → Contents → Type 0
-HasCheckpointIn g Arming f image = StandsIn g Arming f image
-HasCheckpointIn g Checkpoint f image = StandsIn g Checkpoint f image
+HasCheckpointIn g Arming f image = StandsInPhase g Arming f image
+HasCheckpointIn g Checkpoint f image = StandsInPhase g Checkpoint f image
 HasCheckpointIn g Deciding f image = Keeps g f.used f.saved image
 HasCheckpointIn g phase f image = ⊥
 
@@ -40,7 +40,7 @@ forwarded image log = with_block image 0 (image log.current)
 
 -- where block 0 spells a log, the image stands as after a commit once what its current block 0 holds is put there
 abbrev pub Ahead : Geometry → Flat → Contents → Type 0
-Ahead g f image = (log : Generation) → log_in g (image 0) ≡ Some log → StandsIn g Committed f (forwarded image log)
+Ahead g f image = (log : Generation) → log_in g (image 0) ≡ Some log → StandsInPhase g Committed f (forwarded image log)
 
 -- the image is sound: block 0 spells a log, and older ones stand behind it
 abbrev pub IsSoundImage : Geometry → Contents → Type 0

@@ -27,7 +27,8 @@ use Rattle.bow_machine.proofs.SoundOpenings.{admit_keeps_sound}
 use Rattle.bow_history.specs.declared.items.Actor.{Actor}
 use Rattle.bow_history.specs.declared.items.Actor.TheVariants.{Lane, Worker, Command}
 use Rattle.bow_history.specs.Journal.{Plan}
-use Rattle.bow_history.specs.Sessions.{Session, Admits, Steps, turn_of, unknown, device_step, lane_of, item_of, item_of_turn}
+use Rattle.bow_history.specs.Sessions.{Session, Admits, Steps, turn_of, device_step, lane_of, item_of, item_of_turn}
+use Rattle.bow_machine.specs.Steps.{unknown}
 use Rattle.bow_history.specs.Sessions.{answered_in, told_to, after_step, after_turn_of, after_turn, IsFor, IsActor, IsAdmission}
 use Rattle.bow_history.specs.Sessions.{call_of_turn}
 use Rattle.bow_history.specs.Ready.{is_lane_ready, is_actor_ready}

@@ -33,7 +33,8 @@ use Rattle.bow_machine.proofs.SoundTold.{steps_tell_so}
 use Rattle.bow_history.specs.declared.items.Item.{Item}
 use Rattle.bow_history.specs.declared.items.Item.TheVariants as items
 use Rattle.bow_history.specs.Journal.{Plan}
-use Rattle.bow_history.specs.Sessions.{Session, Turned, Admits, Steps, turn_of, unknown, device_step, lane_of, item_of, item_of_turn, item_in, told_to, after_turn_of, after_turn, IsFor, IsTurn, call_of_turn}
+use Rattle.bow_history.specs.Sessions.{Session, Turned, Admits, Steps, turn_of, device_step, lane_of, item_of, item_of_turn, item_in, told_to, after_turn_of, after_turn, IsFor, IsTurn, call_of_turn}
+use Rattle.bow_machine.specs.Steps.{unknown}
 use Rattle.bow_history.specs.Histories.{session_after, journal_of, with_items}
 use Rattle.bow_history.specs.Legality.{IsUntouched, StartsUntouched}
 use Rattle.bow_history.specs.Prepared.{AnswersWrite, AnswersPrepare, IsPrepared, PreparedIsUntouched}

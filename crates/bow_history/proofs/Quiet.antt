@@ -17,7 +17,8 @@ use Rattle.bow_history.specs.Histories.{Disk, journal_of, with_items}
 use Rattle.bow_history.specs.Journal.{Plan}
 use Rattle.bow_history.specs.Promises.{faults_in, items}
 use Rattle.bow_history.specs.Quiet.{QuietRunsSucceed, EndsLed}
-use Rattle.bow_history.specs.Sessions.{Session, Turned, Admits, Steps, turn_of, unknown, device_step, item_of, item_of_turn, item_in, call_of_turn, call_in, reply_in, after_turn, IsTurn}
+use Rattle.bow_history.specs.Sessions.{Session, Turned, Admits, Steps, turn_of, device_step, item_of, item_of_turn, item_in, call_of_turn, call_in, reply_in, after_turn, IsTurn}
+use Rattle.bow_machine.specs.Steps.{unknown}
 use Rattle.bow_history.specs.SoundSessions.{IsSoundSession}
 use Rattle.bow_history.proofs.Runs.{turn_advances}
 use Rattle.bow_history.proofs.Sessions.{item_faults}

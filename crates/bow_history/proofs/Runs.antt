@@ -43,7 +43,8 @@ use Rattle.bow_history.specs.Lags.{Lags}
 use Rattle.bow_machine.specs.Deeds.{deed_of}
 use Rattle.bow_machine.specs.MemoryLaws.{HasNoBlock}
 use Rattle.bow_machine.proofs.SoundSpace.{no_space_is_exact}
-use Rattle.bow_history.specs.Sessions.{Session, Turned, Admits, Steps, turn_of, unknown, device_step, item_of, told_to, after_step, after_turn_of, after_turn, item_of_turn, item_in, call_of_turn, IsAdmission, IsActor, IsFor, IsTurn, reply_in, call_in}
+use Rattle.bow_history.specs.Sessions.{Session, Turned, Admits, Steps, turn_of, device_step, item_of, told_to, after_step, after_turn_of, after_turn, item_of_turn, item_in, call_of_turn, IsAdmission, IsActor, IsFor, IsTurn, reply_in, call_in}
+use Rattle.bow_machine.specs.Steps.{unknown}
 use Rattle.bow_history.specs.Histories.{Disk, session_after, journal_of, with_items, DoesTurn, Runs}
 use Rattle.bow_history.specs.Fits.{done_of, done_in, HasTally, IsAt, AgreesThere, AgreesInHand, Agrees}
 use Rattle.bow_history.specs.Legality.{StartsUntouched, BeginningIsAt, RunsAreLegal, EndStands}

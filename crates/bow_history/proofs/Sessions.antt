@@ -10,7 +10,8 @@ use Rattle.bow_machine.specs.declared.turns.Turn.{Turn}
 use Rattle.bow_machine.specs.Steps.{Told, Idle, Moved, Wrote, Got, Answered, call_of}
 use Rattle.bow_history.specs.declared.items.Item.{Item}
 use Rattle.bow_history.specs.Journal.{Plan, beginning, Legal}
-use Rattle.bow_history.specs.Sessions.{Session, begun, Turned, Admits, Steps, turn_of, unknown, device_step, reply_in, item_of, item_of_turn, item_in, call_of_turn, call_in, after_turn, IsTurn}
+use Rattle.bow_history.specs.Sessions.{Session, begun, Turned, Admits, Steps, turn_of, device_step, reply_in, item_of, item_of_turn, item_in, call_of_turn, call_in, after_turn, IsTurn}
+use Rattle.bow_machine.specs.Steps.{unknown}
 use Rattle.bow_history.specs.Histories.{Disk, session_after, journal_of, with_item, with_items, calls_in, calls_after, moments_of, DoesTurn, Runs}
 use Rattle.bow_history.specs.Promises.{Core, Did, held, View, start_of, state_of, more, items, TurnGoes, RunsOver, IsSession, LoadedIsSession, TurnsKeepSession, IsPlayed, SessionsAreLegal, faults_in, is_fault}
 use Rattle.bow_units.specs.declared.requests.Outcome.{Outcome}

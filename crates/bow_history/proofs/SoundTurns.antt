@@ -22,7 +22,8 @@ use Rattle.bow_machine.proofs.SoundSteps.{step_keeps_sound}
 use Rattle.bow_machine.proofs.SoundTold.{steps_tell_so}
 use Rattle.bow_history.specs.declared.items.Item.{Item}
 use Rattle.bow_history.specs.Journal.{Plan}
-use Rattle.bow_history.specs.Sessions.{Session, begun, Turned, Admits, Steps, turn_of, unknown, device_step, lane_of, item_of, item_of_turn}
+use Rattle.bow_history.specs.Sessions.{Session, begun, Turned, Admits, Steps, turn_of, device_step, lane_of, item_of, item_of_turn}
+use Rattle.bow_machine.specs.Steps.{unknown}
 use Rattle.bow_history.specs.Sessions.{item_in, told_to, after_step, after_turn_of, after_turn, IsFor, IsTurn}
 use Rattle.bow_history.specs.Sessions.{call_of_turn}
 use Rattle.bow_history.specs.Histories.{session_after, journal_of, with_items}

@@ -1,21 +1,17 @@
 -- Small histories, worked out.
 use Rattle.std.specs.Prelude.{ℕ, zero, suc, ◌≡◌, List, [], ◌∷◌, Option, Some, None}
-use Rattle.bow_units.specs.declared.sizes.Geometry.{Geometry}
 use Rattle.bow_units.specs.declared.requests.Op.{Op}
 use Rattle.bow_units.specs.declared.requests.Op.TheVariants.{Write}
 use Rattle.bow_units.specs.declared.requests.Outcome.TheVariants as outcomes
 use Rattle.bow_queue.specs.declared.tickets.Ticket.{Ticket}
 use Rattle.bow_machine.specs.Calls.{Failed, Succeeded}
 use Rattle.bow_machine.specs.Laws.{opened}
+use Rattle.bow_machine.specs.Rows.{sixteen}
 use Rattle.bow_history.specs.declared.items.Actor.TheVariants.{Lane, Worker}
 use Rattle.bow_history.specs.declared.items.Item.TheVariants.{Wrote, Answered}
 use Rattle.bow_history.specs.Journal.{Plan}
 use Rattle.bow_history.specs.Sessions.{begun, Turned, Admits, Steps}
 use Rattle.bow_history.specs.Histories.{journal_of, moments_of}
-
--- sixteen blocks of 512 bytes
-abbrev pub sixteen : Geometry
-sixteen = record { block_size = 512; blocks = 16 }
 
 -- the ticket of this serial number
 abbrev pub ticket : ℕ → Ticket

@@ -5,7 +5,6 @@ use Rattle.std.specs.Option.{option_map}
 use Rattle.bow_units.specs.declared.sizes.Geometry.{Geometry}
 use Rattle.bow_units.specs.declared.requests.Op.{Op}
 use Rattle.bow_units.specs.declared.requests.Op.TheVariants as ops
-use Rattle.bow_chain.specs.Contents.{Contents}
 use Rattle.bow_flat.specs.Flat.{put}
 use Rattle.bow_queue.specs.declared.tickets.Ticket.{Ticket}
 use Rattle.bow_queue.specs.Requests.{same_ticket}
@@ -15,7 +14,7 @@ use Rattle.bow_machine.specs.Tasks.{task_of}
 use Rattle.bow_machine.specs.declared.turns.Turn.{Turn}
 use Rattle.bow_machine.specs.declared.turns.Turn.TheVariants.{Map, Worker as WorkerTurn, Command as CommandTurn}
 use Rattle.bow_machine.specs.Steps.{Told, Idle, Moved, Wrote, Got, Answered, Step, payload_of, extent_of, call_of}
-use Rattle.bow_machine.specs.Steps.{step_of}
+use Rattle.bow_machine.specs.Steps.{step_of, unknown}
 use Rattle.bow_machine.specs.MemoryIsSound.{IsAdmissible}
 use Rattle.bow_machine.specs.MemoryLaws.{CanHaveIt}
 use Rattle.bow_history.specs.declared.items.Actor.{Actor}
@@ -54,10 +53,6 @@ abbrev pub turn_of : Session → Actor → Option Turn
 turn_of s (Lane lane) = option_map Map (s.hand lane)
 turn_of s Worker = Some WorkerTurn
 turn_of s Command = Some CommandTurn
-
--- what stands for the contents of the disk where nothing depends on them
-abbrev pub unknown : Contents
-unknown = λ b. []
 
 -- a step of the device: its memory, and what it tells, depend on the disk by its reply alone
 abbrev pub device_step : Geometry → Memory → Turn → Reply → Step

@@ -14,7 +14,7 @@ use Rattle.bow_chain.specs.Kept.{Keeps}
 use Rattle.bow_flat.specs.Flat.{Flat, May, after}
 use Rattle.bow_flat.specs.Flat.Event.{Flushes}
 use Rattle.bow_guard.specs.Cuts.{Candidates, IsCut, IsFlushed}
-use Rattle.bow_guard.specs.Standing.{Shows, StandsIn, Ahead, IsSoundImage, Forwardable, forwarded}
+use Rattle.bow_guard.specs.Standing.{Shows, StandsInPhase, Ahead, IsSoundImage, Forwardable, forwarded}
 use Rattle.bow_guard.proofs.Device.{one_of, given_cases}
 use Rattle.bow_guard.proofs.Phases.{may_plain}
 use Rattle.bow_queue.specs.declared.tickets.Ticket.{Ticket}
@@ -236,17 +236,17 @@ module _ (g : Geometry) (m : Memory) (now : Contents) (may : Candidates) (f : Fl
   from_flushed flushed =
       let both = flushed_is_ahead g m now may state image k.stands k.led flushed cut in
       elim flushed [
-        | inl at ↦ elim (subst (λ p. StandsIn g p (after g.blocks Flushes state) image) (k.stands.phases ∙ at) both.0) [
+        | inl at ↦ elim (subst (λ p. StandsInPhase g p (after g.blocks Flushes state) image) (k.stands.phases ∙ at) both.0) [
           | inl keeps ↦ inr (keeps_sound g state.used state.saved image keeps, ahead_of (λ log spells. both.1 (inr (log_has_magic g (image 0) log bytes spells)) log spells))
           | inr shows ↦ inl (subst (λ c. Shows g c image) k.current shows)
         ]
-        | inr at ↦ inr (keeps_sound g state.used state.saved image (subst (λ p. StandsIn g p (after g.blocks Flushes state) image) (k.stands.phases ∙ at.0) both.0), ahead_of (both.1 (inl at.0)))
+        | inr at ↦ inr (keeps_sound g state.used state.saved image (subst (λ p. StandsInPhase g p (after g.blocks Flushes state) image) (k.stands.phases ∙ at.0) both.0), ahead_of (both.1 (inl at.0)))
       ]
 
   forwardable : Forwardable g f image
   forwardable = elim k.flushed [
     | inl flushed ↦ from_flushed flushed
-    | inr at ↦ inl (subst (λ c. Shows g c image) k.pending (subst (λ p. StandsIn g p state image) (k.stands.phases ∙ at) (machine_cut g m now may state image k.stands cut)))
+    | inr at ↦ inl (subst (λ c. Shows g c image) k.pending (subst (λ p. StandsInPhase g p state image) (k.stands.phases ∙ at) (machine_cut g m now may state image k.stands cut)))
   ]
 
 pub forward_is_forwardable : ForwardIsForwardable
@@ -389,4 +389,4 @@ flush_goes_forward g m ticket t reply now new_now may new_may f s led is does to
 pub sound_are_led : SoundAreLed
 sound_are_led g m now may one f l s all =
     ahead_so g m now may one f l s (λ is image cut same. all image cut same
-    (keeps_sound g f.used f.saved image (subst (λ p. StandsIn g p f image) (s.phases ∙ is) (machine_cut g m now may f image s cut))))
+    (keeps_sound g f.used f.saved image (subst (λ p. StandsInPhase g p f image) (s.phases ∙ is) (machine_cut g m now may f image s cut))))

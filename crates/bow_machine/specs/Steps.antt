@@ -377,6 +377,10 @@ call_of g m (FlushesFor r) = Some FlushCall
 call_of g m (DiscardsFor r) = None
 call_of g m (Acts taken) = call_in_hand g taken taken.hand
 
+-- what stands for the contents of the disk where nothing depends on them: memory, and what is told, never do
+abbrev pub unknown : Contents
+unknown = λ b. []
+
 -- the step of a task, by the disk's reply; `now` is what the disk holds before it
 abbrev pub step_of : Geometry → Contents → Memory → Task → Reply → Step
 step_of g now m Waits reply = record { memory = m; told = Idle; events = [] }

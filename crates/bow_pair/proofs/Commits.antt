@@ -26,7 +26,8 @@ use Rattle.bow_flat.specs.Flat.Event.{Flushes}
 use Rattle.bow_machine.specs.Laws.{after_all}
 use Rattle.bow_machine.specs.MemoryLaws.{tells_fault}
 use Rattle.bow_core.specs.Standing.{Leads, StandsIn, seen}
-use Rattle.bow_core.specs.Steps.{IsStep, unknown}
+use Rattle.bow_core.specs.Steps.{IsStep}
+use Rattle.bow_machine.specs.Steps.{unknown}
 use Rattle.bow_core.specs.Turns.{told_of}
 use Rattle.bow_core.specs.Views.{IsOpened, View}
 use Rattle.bow_core.specs.declared.turns.Step.{Step as OwnStep}
@@ -37,7 +38,7 @@ use Rattle.bow_disk.specs.Shapes.{crash_image}
 use Rattle.bow_chain.specs.Contents.{contents_of}
 use Rattle.bow_guard.specs.Cuts.{candidates_of}
 use Rattle.bow_guard.specs.Standing.{IsSoundImage}
-use Rattle.bow_guard.specs.Standing.{StandsIn as StandsAs}
+use Rattle.bow_guard.specs.Standing.{StandsInPhase}
 use Rattle.bow_guard.proofs.Joined.{crashes_are_cuts}
 use Rattle.bow_machine.specs.Ends.{commit_left}
 use Rattle.bow_machine.specs.MemoryLaws.{CanHave}
@@ -245,7 +246,7 @@ can_have g (Some call) reply may = may
 committed_unsound : (g : Geometry) (m : Memory) (c : Content) (image : List (List ℕ)) (h : Flat) → IsShaped g.block_size g.blocks c → IsCrash c.candidates image → IsStanding g m (contents_of c.now) (candidates_of c.candidates) h → m.phase ≡ Committed → IsSoundImage g (contents_of image) → ⊥
 committed_unsound g m c image h shaped crash standing phase sound =
     let cut = ((crashes_are_cuts g g.block_size c image shaped).0 crash).1 in
-    let stands = subst (λ (p : Phase). StandsAs g p h (contents_of image)) (standing.phases ∙ phase) (machine_cut g m (contents_of c.now) (candidates_of c.candidates) h (contents_of image) standing cut) in
+    let stands = subst (λ (p : Phase). StandsInPhase g p h (contents_of image)) (standing.phases ∙ phase) (machine_cut g m (contents_of c.now) (candidates_of c.candidates) h (contents_of image) standing cut) in
     plain_unsound g (standing.sound).sizes image (crash_image g.block_size g.blocks c image shaped crash) stands.plain sound.0 sound.1 sound.2
 
 -- a commit over a device, since it was flushed

@@ -16,7 +16,7 @@ use Rattle.bow_flat.specs.Flat.{Flat, after}
 use Rattle.bow_flat.specs.Flat.Event.{Flushes}
 use Rattle.bow_guard.specs.Cuts.{candidates_of}
 use Rattle.bow_guard.specs.Standing.{Forwardable, Shows}
-use Rattle.bow_guard.specs.Standing.{StandsIn as StandsAs}
+use Rattle.bow_guard.specs.Standing.{StandsInPhase}
 use Rattle.bow_guard.proofs.Joined.{crashes_are_cuts}
 use Rattle.bow_machine.specs.Memory.{Memory}
 use Rattle.bow_machine.specs.Standing.{IsStanding}
@@ -40,7 +40,7 @@ paired xs ys k x same at = elim (slice_get_cases ys k).1 [
 held_by : (g : Geometry) (m : Memory) (c : Content) (image : List (List ℕ)) (f : Flat) → IsShaped g.block_size g.blocks c → IsCrash c.candidates image → IsStanding g m (contents_of c.now) (candidates_of c.candidates) f → m.phase ≡ Checkpoint → Keeps g f.used f.saved (contents_of image)
 held_by g m c image f shaped crash standing phase =
     let cut = ((crashes_are_cuts g g.block_size c image shaped).0 crash).1 in
-    subst (λ (p : Phase). StandsAs g p f (contents_of image)) (standing.phases ∙ phase) (machine_cut g m (contents_of c.now) (candidates_of c.candidates) f (contents_of image) standing cut)
+    subst (λ (p : Phase). StandsInPhase g p f (contents_of image)) (standing.phases ∙ phase) (machine_cut g m (contents_of c.now) (candidates_of c.candidates) f (contents_of image) standing cut)
 
 module _ {D : Type 0} (stated : D → Option Geometry) (content : D → Option Content) (faults : D → ℕ)
     (shaped : (d : D) (c : Content) → content d ≡ Some c → (g : Geometry) → stated d ≡ Some g → IsShaped g.block_size g.blocks c) where

@@ -35,7 +35,8 @@ use Rattle.bow_queue.specs.declared.tickets.Ticket.{Ticket}
 use Rattle.bow_units.specs.declared.requests.Op.{Op}
 use Rattle.bow_history.specs.SoundSessions.{IsSoundSession}
 use Rattle.bow_history.specs.Journal.{Plan}
-use Rattle.bow_history.specs.Sessions.{Session, Admits, Steps, after_turn_of, call_of_turn, device_step, IsAdmission, taken_in, turn_of, told_to, unknown}
+use Rattle.bow_history.specs.Sessions.{Session, Admits, Steps, after_turn_of, call_of_turn, device_step, IsAdmission, taken_in, turn_of, told_to}
+use Rattle.bow_machine.specs.Steps.{unknown}
 use Rattle.bow_session.specs.Sessions.{Run, plan_in, state_in}
 use Rattle.bow_past.specs.Agreement.{Agrees, AgreesIn, AgreesOver, AreAmong, older_of}
 use Rattle.bow_past.specs.Readings.{Reading, kept_of}

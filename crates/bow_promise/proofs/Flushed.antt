@@ -15,7 +15,7 @@ use Rattle.bow_chain.specs.Contents.{contents_of}
 use Rattle.bow_chain.specs.Kept.{Keeps}
 use Rattle.bow_flat.specs.Flat.{Flat, Event, May, narrowed, put, after, discards, Allows, opening}
 use Rattle.bow_flat.specs.Flat.Event.{Writes, Fails, Reads, Discards, Flushes, Arms, Prepares, Decides, Commits, Rests}
-use Rattle.bow_guard.specs.Standing.{StandsIn}
+use Rattle.bow_guard.specs.Standing.{StandsInPhase}
 use Rattle.bow_machine.proofs.MappedWrites.{put_here, put_there}
 use Rattle.bow_restore.proofs.Backs.{plain_unsound}
 use Rattle.bow_history.specs.declared.items.Item.{Item}
@@ -154,7 +154,7 @@ module _ (g : Geometry) (valid : IsValid g) (f : Flat) (image : List (List ℕ))
   no_keeps : Keeps g f.used f.saved (contents_of image) → May known (contents_of image b)
   no_keeps keeps = absurd (plain_unsound g valid image whole plain keeps.log keeps.older keeps.sound)
 
-  left_readable : (phase : Phase) → StandsIn g phase f (contents_of image) → May known (contents_of image b)
+  left_readable : (phase : Phase) → StandsInPhase g phase f (contents_of image) → May known (contents_of image b)
   left_readable Trim shows = k.pending (contents_of image b) (shows.each b below)
   left_readable Arming (inl shows) = k.pending (contents_of image b) (shows.each b below)
   left_readable Arming (inr keeps) = no_keeps keeps

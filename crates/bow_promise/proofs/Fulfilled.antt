@@ -10,7 +10,7 @@ use Rattle.bow_units.specs.declared.requests.Phase.TheVariants.{Trim, Arming, Ch
 use Rattle.bow_units.specs.Magics.{HasMagic, IsPlain}
 use Rattle.bow_chain.specs.Contents.{contents_of}
 use Rattle.bow_flat.specs.Flat.{Flat, May, is_any, opening}
-use Rattle.bow_guard.specs.Standing.{StandsIn}
+use Rattle.bow_guard.specs.Standing.{StandsInPhase}
 use Rattle.bow_restore.specs.Rewinds.{Reruns}
 use Rattle.bow_restore.proofs.Backs.{plain_unsound}
 use Rattle.bow_restore.proofs.Proved.{reruns_pass_on}
@@ -74,8 +74,8 @@ module _ (p : Play) (n : ℕ) (first : List (List ℕ)) (k : IsCutOf p n first) 
     | inr (inr decides) ↦ absurd (none decides.0 decides.1)
   ]
 
-  phase_stands : (phase : Phase) → k.way.flat.phase ≡ phase → StandsIn p.plan.sizes phase k.way.flat (contents_of first)
-  phase_stands phase is = subst (λ x. StandsIn p.plan.sizes x k.way.flat (contents_of first)) is k.way.stands
+  phase_stands : (phase : Phase) → k.way.flat.phase ≡ phase → StandsInPhase p.plan.sizes phase k.way.flat (contents_of first)
+  phase_stands phase is = subst (λ x. StandsInPhase p.plan.sizes x k.way.flat (contents_of first)) is k.way.stands
 
   -- until a prepare is begun
   pub unprepared : IsNotBegun p ops.Prepare k.way.front k.way.place → IsPlain (contents_of first 0)
@@ -135,7 +135,7 @@ module _ (p : Play) (n : ℕ) (first : List (List ℕ)) (k : IsCutOf p n first) 
           let in_use : k.way.flat.used b ≡ true = taken.used b ∙ ap (λ c. not (is_any c)) is in
           subst (May (taken.then.flat.current b)) (sym (blocks b below in_use)) (taken.saved b below in_use)
 
-  armed_phase : HasMagic (contents_of first 0) → (phase : Phase) → StandsIn p.plan.sizes phase k.way.flat (contents_of first) → IsArmed phase
+  armed_phase : HasMagic (contents_of first 0) → (phase : Phase) → StandsInPhase p.plan.sizes phase k.way.flat (contents_of first) → IsArmed phase
   armed_phase magic Trim stands = absurd (stands.plain magic)
   armed_phase magic Arming stands = tt
   armed_phase magic Checkpoint stands = tt

@@ -15,7 +15,7 @@ use Rattle.bow_flat.specs.Flat.{Flat, Event, May, is_any, after, opening}
 use Rattle.bow_flat.specs.Flat.Event.{Arms, Prepares}
 use Rattle.bow_flat.specs.Valid.{IsState}
 use Rattle.bow_flat.proofs.Valid.{opening_valid}
-use Rattle.bow_guard.specs.Standing.{Shows, StandsIn, HasCheckpointIn}
+use Rattle.bow_guard.specs.Standing.{Shows, StandsInPhase, HasCheckpointIn}
 use Rattle.bow_restore.specs.Rewinds.{Reruns}
 use Rattle.bow_restore.proofs.Backs.{plain_unsound}
 use Rattle.bow_restore.proofs.Proved.{reruns_pass_on}
@@ -43,7 +43,7 @@ module _ (g : Geometry) (valid : IsValid g) (f : Flat) (state : IsState f) (firs
   pub back : HasCheckpointIn g f.phase f (contents_of first) → ComesBack g f (contents_of last)
   back has = held_from_the_checkpoint g f first last between valid whole state has runs
 
-  ends_as : (phase : Phase) → f.phase ≡ phase → StandsIn g phase f (contents_of first) → EndsAs g phase f first last
+  ends_as : (phase : Phase) → f.phase ≡ phase → StandsInPhase g phase f (contents_of first) → EndsAs g phase f first last
   ends_as Trim is stands = shown f.pending stands
   ends_as Arming is stands = back (subst (λ x. HasCheckpointIn g x f (contents_of first)) (sym is) stands)
   ends_as Checkpoint is stands = back (subst (λ x. HasCheckpointIn g x f (contents_of first)) (sym is) stands)

@@ -10,7 +10,7 @@ use Rattle.bow_disk.specs.Moments.{AddsCuts, Tells}
 use Rattle.bow_disk.proofs.Moments.{tells_map}
 use Rattle.bow_chain.specs.Contents.{contents_of}
 use Rattle.bow_chain.specs.Kept.{Holds}
-use Rattle.bow_guard.specs.Standing.{Shows, StandsIn, HasCheckpointIn}
+use Rattle.bow_guard.specs.Standing.{Shows, StandsInPhase, HasCheckpointIn}
 use Rattle.bow_restore.proofs.Backs.{now_is_crash}
 use Rattle.bow_restore.specs.Answers.{EndsBack, FromHeld, IsBack, Untouched}
 use Rattle.bow_restore.specs.Replaying.{IsFlushed}
@@ -176,7 +176,7 @@ module _ {D : Type 0} (stated : D → Option Geometry) (content : D → Option C
       back_by : HasCheckpointIn p.plan.sizes k.way.flat.phase k.way.flat (contents_of first) → EndsBack g k.way.flat.used k.way.flat.saved content new answer
       back_by has = ends_back (λ image crash. (let runs = runs_to image crash in back p.plan.sizes k.sizes k.way.flat (flat_valid p n first k) first image runs.0 k.whole runs.1 has)) answer from
 
-      by_phase : (phase : Phase) → k.way.flat.phase ≡ phase → StandsIn p.plan.sizes phase k.way.flat (contents_of first) → Recovers g phase k.way.flat content new answer
+      by_phase : (phase : Phase) → k.way.flat.phase ≡ phase → StandsInPhase p.plan.sizes phase k.way.flat (contents_of first) → Recovers g phase k.way.flat content new answer
       by_phase Trim is stands = ends_shown k.way.flat.pending stands
       by_phase Arming is stands = back_by (subst (λ x. HasCheckpointIn p.plan.sizes x k.way.flat (contents_of first)) (sym is) stands)
       by_phase Checkpoint is stands = back_by (subst (λ x. HasCheckpointIn p.plan.sizes x k.way.flat (contents_of first)) (sym is) stands)

@@ -22,7 +22,8 @@ use Rattle.bow_machine.specs.Tasks.{task_of}
 use Rattle.bow_machine.specs.declared.turns.Turn.{Turn}
 use Rattle.bow_machine.specs.Told.{AnswerRow, ServedRow, ToldRow}
 use Rattle.bow_history.specs.Journal.{Plan}
-use Rattle.bow_history.specs.Sessions.{Session, Turned, Admits, Steps, IsFor, IsTurn, after_turn, call_of_turn, device_step, item_in, item_of, item_of_turn, lane_of, turn_of, unknown}
+use Rattle.bow_history.specs.Sessions.{Session, Turned, Admits, Steps, IsFor, IsTurn, after_turn, call_of_turn, device_step, item_in, item_of, item_of_turn, lane_of, turn_of}
+use Rattle.bow_machine.specs.Steps.{unknown}
 use Rattle.bow_history.specs.SoundSessions.{IsSoundSession}
 use Rattle.bow_history.proofs.Lists.{one_of}
 use Rattle.bow_history.proofs.Turns.{for_write}

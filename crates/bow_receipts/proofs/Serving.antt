@@ -41,7 +41,8 @@ use Rattle.bow_history.specs.Fits.{IsSeat}
 use Rattle.bow_history.specs.Histories.{session_after, journal_of, with_items}
 use Rattle.bow_history.specs.Journal.{Plan}
 use Rattle.bow_history.specs.Sections.{SectionsRise}
-use Rattle.bow_history.specs.Sessions.{Session, Turned, Steps, begun, turn_of, unknown, device_step, told_to, after_turn_of, after_turn, item_of, item_of_turn, item_in, call_of_turn, first_in, lane_of, IsActor, IsFor, IsTurn}
+use Rattle.bow_history.specs.Sessions.{Session, Turned, Steps, begun, turn_of, device_step, told_to, after_turn_of, after_turn, item_of, item_of_turn, item_in, call_of_turn, first_in, lane_of, IsActor, IsFor, IsTurn}
+use Rattle.bow_machine.specs.Steps.{unknown}
 use Rattle.bow_history.specs.SoundSessions.{IsSoundSession, MayRun}
 use Rattle.bow_history.proofs.Seats.{lane_is}
 use Rattle.bow_history.proofs.Ending.{items_go_down}

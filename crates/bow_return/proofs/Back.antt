@@ -5,7 +5,7 @@ use Rattle.bow_units.specs.declared.requests.Phase.{Phase}
 use Rattle.bow_units.specs.declared.requests.Phase.TheVariants.{Trim, Arming, Checkpoint, Deciding, Committed}
 use Rattle.bow_flat.specs.Flat.{Flat}
 use Rattle.bow_chain.specs.Contents.{Contents, contents_of}
-use Rattle.bow_guard.specs.Standing.{StandsFor, StandsIn, HasCheckpointIn}
+use Rattle.bow_guard.specs.Standing.{StandsFor, StandsInPhase, HasCheckpointIn}
 use Rattle.bow_guard.proofs.Proved.{held_together}
 use Rattle.bow_machine.proofs.Cuts.{machine_cut}
 use Rattle.bow_restore.proofs.Proved.{reruns_hold}
@@ -20,7 +20,7 @@ held_from_the_checkpoint g f image last between valid whole state has runs =
     let both = held_together g f (contents_of image) state has in
     record { plain = both.1; holds = reruns_hold g f.used f.saved image last between valid whole both.1 both.0 runs }
 
-stands_has : (g : Geometry) (f : Flat) (image : Contents) (p : Phase) → f.phase ≡ p → (p ≡ Arming) ⊎ (p ≡ Checkpoint) → StandsIn g p f image → HasCheckpointIn g p f image
+stands_has : (g : Geometry) (f : Flat) (image : Contents) (p : Phase) → f.phase ≡ p → (p ≡ Arming) ⊎ (p ≡ Checkpoint) → StandsInPhase g p f image → HasCheckpointIn g p f image
 stands_has g f image Trim is (inl e) h = absurd cc
 stands_has g f image Trim is (inr e) h = absurd cc
 stands_has g f image Arming is which h = h

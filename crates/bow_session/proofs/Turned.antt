@@ -32,7 +32,8 @@ use Rattle.bow_core.specs.Views.{View}
 use Rattle.bow_history.specs.declared.items.Actor.{Actor}
 use Rattle.bow_history.specs.declared.items.Item.{Item}
 use Rattle.bow_history.specs.Journal.{Plan}
-use Rattle.bow_history.specs.Sessions.{Session, Turned, Steps, turn_of, unknown, device_step, told_to, after_step, after_turn_of, after_turn, item_of, item_of_turn, item_in, call_of_turn, IsActor, IsTurn, IsFor}
+use Rattle.bow_history.specs.Sessions.{Session, Turned, Steps, turn_of, device_step, told_to, after_step, after_turn_of, after_turn, item_of, item_of_turn, item_in, call_of_turn, IsActor, IsTurn, IsFor}
+use Rattle.bow_machine.specs.Steps.{unknown}
 use Rattle.bow_history.specs.SoundSessions.{IsSoundSession}
 use Rattle.bow_history.specs.Ends.{HasAtMost, items_left, items_made}
 use Rattle.bow_history.specs.Promises.{items, more}

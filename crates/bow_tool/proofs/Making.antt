@@ -32,7 +32,8 @@ use Rattle.bow_history.specs.Cuts.{NoneFails}
 use Rattle.bow_history.specs.Histories.{journal_of, with_items}
 use Rattle.bow_history.specs.Journal.{Plan}
 use Rattle.bow_history.specs.Sections.{SectionsRise}
-use Rattle.bow_history.specs.Sessions.{Session, Turned, Admits, Steps, IsTurn, after_turn, call_in, call_of_turn, device_step, item_in, item_of, item_of_turn, lane_of, reply_in, turn_of, unknown}
+use Rattle.bow_history.specs.Sessions.{Session, Turned, Admits, Steps, IsTurn, after_turn, call_in, call_of_turn, device_step, item_in, item_of, item_of_turn, lane_of, reply_in, turn_of}
+use Rattle.bow_machine.specs.Steps.{unknown}
 use Rattle.bow_history.specs.SoundSessions.{IsSoundSession, MayRun}
 use Rattle.bow_history.proofs.SoundTurns.{beginning_is_sound, turns_keep_sound}
 use Rattle.bow_script.specs.Drills.{after, drill_script_of}
