@@ -115,7 +115,8 @@ pub fn tool<
 /// A play makes its steps by the draws of its number, and where a commit was answered `Done` no attempts are kept any
 /// more. Its journal is legal from the opening state of the image. A cut since it began leaves what might have been
 /// left before, or a state on the journal's way; since the moment of an item, a state that has the item; at the end,
-/// the last one.
+/// the last one. Whatever it leaves is promised: over any number of restorations and boots, each cut anywhere,
+/// the first that ends well has the checkpoint back, or what was flushed.
 ///
 /// A cut in a restoration or a boot leaves what might have been left before, or an image that passes on what the one at
 /// entry kept: so the checkpoint is never lost. A check leaves nothing that might not have been left before.
