@@ -8,11 +8,26 @@
 ghost use Rattle.std.specs.Prelude.{◌≡◌, ◌+◌, ◌-◌, ◌*◌, ◌/◌, ◌%◌, ◌^◌, ◌<◌, ◌≤◌, ℕ, length, bit_xor, slice_index};
 ghost use Rattle.bow_crc.specs.Crc.{bits_out, register, crc_of};
 ghost use Rattle.bow_crc.specs.Sums.{block_sum};
-ghost use Rattle.bow_crc.specs.Lanes.{eighth, number, both, groups, carried};
+ghost use Rattle.bow_crc.specs.Lanes.{eighth, number, both, groups, carry, carried};
 
 use crate::sums::of_block;
 use crate::table::{add, add_sixteen};
 use std::simd::u64x2;
+
+// What the group in each lane changes in the four that come one behind the next.
+#[inline(always)]
+pub(crate) fn changes(w: u64x2) -> (u64x2, u64x2, u64x2, u64x2)
+    ensures { (j : ℕ) → j < 2 →
+        groups 0 (slice_index result.0 j) (slice_index result.1 j) (slice_index result.2 j) (slice_index result.3 j)
+        ≡ carry (slice_index w j) }
+{
+    (
+        (w << u64x2::splat(17)) ^ (w << u64x2::splat(55)),
+        (w >> u64x2::splat(47)) ^ ((w >> u64x2::splat(9)) ^ (w << u64x2::splat(19))),
+        (w >> u64x2::splat(45)) ^ (w << u64x2::splat(44)),
+        w >> u64x2::splat(20),
+    )
+}
 
 // Lets the next group of two blocks go out, where those before it have changed it and the four behind it so: what it
 // changes in the next five leads to the same register.
@@ -29,19 +44,13 @@ fn go_out(
         bits_out (m + 64) (bit_xor (carried j a b c d e) (bit_xor (slice_index next j) (rest * 2 ^ 64)))
         ≡ bits_out m (bit_xor (carried j result.0 result.1 result.2 result.3 result.4) rest) }
 {
-    let w = a ^ next;
-    (
-        b,
-        c ^ ((w << u64x2::splat(17)) ^ (w << u64x2::splat(55))),
-        d ^ ((w >> u64x2::splat(47)) ^ ((w >> u64x2::splat(9)) ^ (w << u64x2::splat(19)))),
-        e ^ ((w >> u64x2::splat(45)) ^ (w << u64x2::splat(44))),
-        w >> u64x2::splat(20),
-    )
+    let (second, third, fourth, fifth) = changes(a ^ next);
+    (b, c ^ second, d ^ third, e ^ fourth, fifth)
 }
 
 // A group of eight bytes.
 #[inline(always)]
-fn group(bytes: &[u8]) -> u64
+pub(crate) fn group(bytes: &[u8]) -> u64
     requires { length bytes.now ≡ 8 }
     ensures { result ≡ number bytes.now }
 {
@@ -64,7 +73,7 @@ fn add_changed(register: u32, low: u64, high: u64, bytes: &[u8]) -> u32
 }
 
 // The register after the last bytes of a block, the first five groups of which are changed so.
-fn last_in(a: u64, b: u64, c: u64, d: u64, e: u64, bytes: &[u8]) -> u32
+pub(crate) fn last_in(a: u64, b: u64, c: u64, d: u64, e: u64, bytes: &[u8]) -> u32
     requires { 48 ≤ length bytes.now }
     ensures { result ≡ bits_out (8 * length bytes.now) (bit_xor (groups a b c d e) (number bytes.now)) }
 {
