@@ -2,8 +2,10 @@ pub mod Buffers
 pub mod Contents
 pub mod Cuts
 pub mod Desks
+pub mod Kept
 pub mod Leads
 pub mod Loading
+pub mod Parts
 pub mod Plays
 pub mod Records
 pub mod Requests

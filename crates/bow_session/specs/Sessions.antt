@@ -5,7 +5,7 @@ use Rattle.bow_machine.specs.Memory.{Memory}
 use Rattle.bow_core.specs.Views.{View}
 use Rattle.bow_script.specs.declared.scripts.Line.{Line}
 use Rattle.bow_history.specs.declared.items.Item.{Item}
-use Rattle.bow_history.specs.Journal.{Plan}
+use Rattle.bow_history.specs.Journal.{Buffers, Plan}
 use Rattle.bow_history.specs.Sessions.{Session}
 use Rattle.bow_session.specs.Buffers.{buffer_kept}
 use Rattle.bow_session.specs.Requests.{plan_of, lane_lines}
@@ -35,14 +35,18 @@ lane_at lanes lane = slice_index_or lanes lane no_lane
 abbrev pub plan_in : {D : Type 0} → Run D → Plan
 plan_in v = plan_of v.core.geometry v.script
 
--- these lanes over a device's memory, as the theory of histories has them; what a write wrote is what was asked for
+-- what is kept of the requests of these lanes; what a write wrote is what was asked for
+abbrev pub kept_in : Plan → List Lane → Buffers
+kept_in plan lanes = λ lane n. buffer_kept (plan.request lane n) (slice_get ((lane_at lanes lane).answered) n)
+
+-- these lanes over a device's memory, as the theory of histories has them
 abbrev pub seated : Plan → Memory → ℕ → List Lane → Session
 seated plan memory admitted lanes = record {
   memory = memory;
   admitted = admitted;
   number = λ lane. length ((lane_at lanes lane).answered);
   hand = λ lane. (lane_at lanes lane).hand;
-  kept = λ lane n. buffer_kept (plan.request lane n) (slice_get ((lane_at lanes lane).answered) n);
+  kept = kept_in plan lanes;
 }
 
 -- the session as that theory has it

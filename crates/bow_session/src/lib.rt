@@ -5,6 +5,7 @@
 mod desks;
 mod lines;
 mod loading;
+mod parts;
 mod payloads;
 mod records;
 mod reserved;
@@ -13,5 +14,6 @@ mod seats;
 mod sessions;
 
 pub use bow_history::{Actor, Item};
+pub use parts::Part;
 pub use run_laws::run_law;
 pub use sessions::Session;

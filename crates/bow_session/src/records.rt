@@ -1,14 +1,24 @@
 // What a session keeps beside its device: the lanes, and what was done.
-ghost use Rattle.std.specs.Prelude.{◌≡◌, ◌+◌, ◌<◌, ◌≤◌, ◌++◌, ◌∷◌, [], length, Some, slice_get};
+ghost use Rattle.std.specs.Prelude.{◌≡◌, ◌+◌, ◌-◌, ◌%◌, ◌<◌, ◌≤◌, ◌++◌, ◌∷◌, [], length, map, IfSome, Some, slice_get};
+ghost use Rattle.std.specs.Prelude.{option_copied};
+ghost use Rattle.bow_units.specs.Sizes.{IsBlockSize, IsValid};
+ghost use Rattle.bow_flat.specs.Flat.{block_at};
+ghost use Rattle.bow_session.specs.Contents.{bytes_given, content_in, data_of};
+ghost use Rattle.bow_session.specs.Desks.{AreFit};
+ghost use Rattle.bow_session.specs.Requests.{plan_of, requests_in};
+ghost use Rattle.bow_session.specs.Seats.{lane_in};
+ghost use Rattle.bow_session.specs.Sessions.{kept_in};
 ghost use Rattle.bow_history.specs.Promises.{items, more};
 ghost use Rattle.bow_history.specs.Ends.{items_made};
 ghost use Rattle.bow_session.specs.Records.{HasAnswered, IsOfLane, HasRoomAt, SeatsAfter, item_told};
 
+use crate::lines::line_of;
 use crate::reserved::Reserved;
 use crate::seats::{Seat, lane_of};
 use bow_core::Step;
 use bow_history::Item;
-use bow_units::Op;
+use bow_script::{Line, Script};
+use bow_units::{Geometry, Op, Payload};
 
 #[derive(Drop)]
 pub(crate) struct Records {
@@ -84,6 +94,47 @@ impl Records {
         self.journal.push(item);
         self.moments.push(calls);
     }
+
+    // The bytes in the buffer of an answered read. `None` exactly where that request is no answered read.
+    pub(crate) fn data(&self, lane: u32, number: u32) -> Option<&[u8]>
+        ensures { option_copied result ≡ data_of (map lane_in self.now.seats.items) lane number }
+    {
+        let lane = lane as usize;
+        if lane >= self.seats.len() {
+            return None;
+        }
+        let seat = &self.seats[lane];
+        match seat.answered.as_slice().get(number as usize) {
+            Some(kept) => read_bytes(kept),
+            None => None,
+        }
+    }
+
+    // The block that an item of a read has read, from the buffer of that request once it is answered; `None` of any
+    // other item. These are the records of this script over a device of these sizes.
+    pub(crate) fn content(&self, script: &Script, geometry: Geometry, item: Item) -> Option<&[u8]>
+        requires valid { IsValid geometry }
+        requires fit { AreFit (plan_of geometry script.now) (requests_in script.now) self.now.seats.items }
+        ensures bytes { bytes_given (option_copied result) ≡ content_in (plan_of geometry script.now) (kept_in (plan_of
+            geometry script.now) (map lane_in self.now.seats.items)) item }
+        ensures block { IfSome result (λ bytes. IsBlockSize (length bytes.now)) }
+    {
+        let Item::Got {
+            lane,
+            number,
+            block,
+        } = item
+        else {
+            return None;
+        };
+        let Some(Line::Read { first, .. }) = line_of(script, lane as usize, number as usize) else {
+            return None;
+        };
+        let Some(bytes) = self.data(lane, number) else {
+            return None;
+        };
+        block_in(bytes, geometry.block_size, *first, block)
+    }
 }
 
 // The request of the lane that the device had is answered.
@@ -94,4 +145,29 @@ fn answer(seats: &mut Vec<Seat>, lane: usize, op: Op)
 {
     let seat = &mut seats[lane];
     seat.answer(op);
+}
+
+// The bytes that are kept of a request, if any are.
+fn read_bytes(kept: &Option<Payload>) -> Option<&[u8]>
+    ensures { option_copied result ≡ kept.now }
+{
+    match kept {
+        Some(payload) => Some(payload.as_slice()),
+        None => None,
+    }
+}
+
+// What a buffer of whole blocks from this one on has of a block.
+fn block_in(bytes: &[u8], size: u32, first: u32, block: u64) -> Option<&[u8]>
+    requires size { IsBlockSize size }
+    requires whole { length bytes.now % size ≡ 0 }
+    ensures bytes { bytes_given (option_copied result) ≡ block_at size bytes.now (block - first) }
+    ensures block { IfSome result (λ given. length given.now ≡ size) }
+{
+    let size = size as usize;
+    let from = block.saturating_sub(first as u64) as usize;
+    if from >= bytes.len() / size {
+        return None;
+    }
+    Some(&bytes[from * size..from * size + size])
 }

@@ -23,6 +23,7 @@ ghost use Rattle.bow_core.specs.Ports.{Makes};
 ghost use Rattle.bow_core.specs.Views.{View};
 ghost use Rattle.bow_script.specs.Scripts.{IsWithinLimits, IsWellFormed};
 ghost use Rattle.bow_session.specs.Loading.{loaded};
+ghost use Rattle.bow_session.specs.Parts.{account_of};
 ghost use Rattle.bow_session.specs.Plays.{Plays};
 ghost use Rattle.bow_history.specs.Ends.{actor_in, turns_left};
 ghost use Rattle.bow_history.specs.Schedule.{FollowsDraws, drawn};
@@ -41,6 +42,7 @@ ghost use Rattle.bow_session.specs.Turns.{IsOneTurn, StepsBy};
 use crate::desks::Desk;
 use crate::lines::line_of;
 use crate::loading::take;
+use crate::parts::Part;
 use crate::seats::are_over;
 use bow_core::Core;
 use bow_disk::Disk;
@@ -48,7 +50,7 @@ use bow_history::{Actor, Item};
 use bow_log::Log;
 use bow_ranges::Ranges;
 use bow_script::{Line, Script};
-use bow_units::{Draws, Failed, Geometry, NoMemory, Payload, Status};
+use bow_units::{Draws, Failed, Geometry, NoMemory, Status};
 use std::alloc::Global;
 use std::marker::Model;
 
@@ -268,15 +270,7 @@ impl<D: Disk, R: Ranges + Drop> Session<D, R> {
     pub fn data(&self, lane: u32, number: u32) -> Option<&[u8]>
         ensures { option_copied result ≡ data_of self.now.lanes lane number }
     {
-        let lane = lane as usize;
-        if lane >= self.desk.records.seats.len() {
-            return None;
-        }
-        let seat = &self.desk.records.seats[lane];
-        match seat.answered.as_slice().get(number as usize) {
-            Some(kept) => read_bytes(kept),
-            None => None,
-        }
+        self.desk.records.data(lane, number)
     }
 
     /// The block that an item of a read has read, from the buffer of that request once it is answered; `None` of any
@@ -286,21 +280,8 @@ impl<D: Disk, R: Ranges + Drop> Session<D, R> {
             ≡ content_in (plan_in self.now) (state_in self.now).kept item }
         ensures block { IfSome result (λ bytes. IsBlockSize (length bytes.now)) }
     {
-        let Item::Got {
-            lane,
-            number,
-            block,
-        } = item
-        else {
-            return None;
-        };
-        let Some(Line::Read { first, .. }) = self.line(lane, number) else {
-            return None;
-        };
-        let Some(bytes) = self.data(lane, number) else {
-            return None;
-        };
-        block_in(bytes, self.desk.core.geometry().block_size, *first, block)
+        let geometry = self.desk.core.geometry();
+        self.desk.records.content(&self.desk.script, geometry, item)
     }
 
     /// The device's count of calls right after the step that gave that item of the journal, items counted from 0.
@@ -358,10 +339,7 @@ impl<D: Disk, R: Ranges + Drop> Session<D, R> {
         self.desk.core.raw(at, into)
     }
 
-    /// Gives the device back. It has 16 places, and where all requests are answered none waits in it. Since it was
-    /// taken it has admitted at most as many requests as the script has. Another session may begin over it where all
-    /// requests are answered, and it is in no checkpoint, or the journal has a prepare's `Done` after which no write
-    /// was answered: then the log is the first one, and no block is changed or saved.
+    /// Gives the device back, as `close_with` does, and drops what was done.
     pub fn close(self) -> Core<D, R>
         ensures same { result ≡ self.core }
         ensures places { result.places ≡ 16 }
@@ -372,33 +350,38 @@ impl<D: Disk, R: Ranges + Drop> Session<D, R> {
             → IsOver self → (result.memory.phase ≡ Checkpoint → IsPrepared (plan_in self) self.journal)
             → MayBeginAnew result }
     {
-        let Session { desk } = self;
-        let Desk { core, .. } = desk;
+        let (core, _part) = self.close_with();
         core
     }
-}
 
-// The bytes that are kept of a request, if any are.
-fn read_bytes(kept: &Option<Payload>) -> Option<&[u8]>
-    ensures { option_copied result ≡ kept.now }
-{
-    match kept {
-        Some(payload) => Some(payload.as_slice()),
-        None => None,
+    /// Gives the device back, and what was done apart from it. The device has 16 places, and where all requests are
+    /// answered none waits in it. Since it was taken it has admitted at most as many requests as the script has.
+    /// Another session may begin over it where all requests are answered, and it is in no checkpoint, or the journal
+    /// has a prepare's `Done` after which no write was answered: then the log is the first one, and no block is changed
+    /// or saved.
+    pub fn close_with(self) -> (Core<D, R>, Part)
+        ensures same { result.0 ≡ self.core }
+        ensures part { result.1 ≡ account_of self }
+        ensures places { result.0.places ≡ 16 }
+        ensures idle { IsOver self → result.0.memory.requests ≡ [] }
+        ensures admitted { (first : View D) → WasLoaded D.stated D.content D.moment D.left_since D.faults first self
+            → result.0.admitted ≤ first.admitted + requests_of self.script }
+        ensures anew { (first : View D) → WasLoaded D.stated D.content D.moment D.left_since D.faults first self
+            → IsOver self → (result.0.memory.phase ≡ Checkpoint → IsPrepared (plan_in self) self.journal)
+            → MayBeginAnew result.0 }
+    {
+        let Session { desk } = self;
+        let Desk {
+            core,
+            script,
+            records,
+        } = desk;
+        let geometry = core.geometry();
+        let part = Part {
+            geometry,
+            script,
+            records,
+        };
+        (core, part)
     }
-}
-
-// What a buffer of whole blocks from this one on has of a block.
-fn block_in(bytes: &[u8], size: u32, first: u32, block: u64) -> Option<&[u8]>
-    requires size { IsBlockSize size }
-    requires whole { length bytes.now % size ≡ 0 }
-    ensures bytes { bytes_given (option_copied result) ≡ block_at size bytes.now (block - first) }
-    ensures block { IfSome result (λ given. length given.now ≡ size) }
-{
-    let size = size as usize;
-    let from = block.saturating_sub(first as u64) as usize;
-    if from >= bytes.len() / size {
-        return None;
-    }
-    Some(&bytes[from * size..from * size + size])
 }
