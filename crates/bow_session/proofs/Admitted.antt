@@ -1,9 +1,9 @@
 -- A lane's next request is taken in: one turn of the session.
 use Rattle.std.proofs.Common.{◌≡◌, ◌≢◌, ℕ, zero, suc, ◌+◌, ◌<◌, ◌≤◌, ◌++◌, ◌&&◌, ◌||◌, nat_le, nat_lt, Bool, true, false, not, List, [], ◌∷◌, length, map, Option, Some, None, is_none, arith, refl, sym, ap, ◌∙◌, subst, inl, inr, ◌^◌}
-use Rattle.std.specs.Prelude.{slice_get, slice_set, take}
+use Rattle.std.specs.Prelude.{get_or, slice_get, slice_set, take}
 use Rattle.std.specs.List.{sum_by, list_all}
 use Rattle.std.specs.Option.{option_map, option_map_or}
-use Rattle.std.proofs.lemmas.Option.{slice_get_within}
+use Rattle.std.proofs.lemmas.Option.{slice_get_within, slice_get_read}
 use Rattle.std.proofs.lemmas.Bool.{cases_eq, cases_lt, and_parts, ltb-true, leb-true, false≢true}
 use Rattle.std.proofs.lemmas.List.Sums.{sum_by-cons}
 use mathlib.Core.Path.{fun_ext}
@@ -253,6 +253,13 @@ module _ (g : Geometry) (script : List (List (List Line))) (m : Memory) (admitte
         fewer_to_come =
             let long : length seat.pending.items ≡ suc (length rest) = ap length pending in
             omega (arith, sum_set (λ (x : Seat). length x.pending.items) seats lane seat new here, long, ap length coming)
+
+-- the seat of a lane that may go on is there
+pub seat_here : {D R : Type 0} (s : Desk D R) (k : Fits s) (lane : ℕ) → is_actor_ready (plan_in (run_of s)) (state_in (run_of s)) (LaneActor lane) ≡ true
+    → (seat : Seat) → seat ≡ get_or s.records.seats.items lane seat → slice_get s.records.seats.items lane ≡ Some seat
+seat_here s k lane ready seat value =
+    let below = lane_below s.core.geometry s.script (state_in (run_of s)) lane ready in
+    slice_get_read s.records.seats.items (length s.records.seats.items) lane seat refl (omega (arith, below, k.lanes)) value
 
 -- The same of the whole session.
 module _ {D R : Type 0} (s : Desk D R) (k : Fits s) (lane : ℕ) (seat : Seat) (here : slice_get s.records.seats.items lane ≡ Some seat)

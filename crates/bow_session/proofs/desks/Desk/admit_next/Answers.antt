@@ -1,8 +1,7 @@
-use Rattle.std.proofs.Common.{◌≡◌, ◌<◌, ◌∙◌, length, refl, sym, ap, subst, arith, rules, Some}
+use Rattle.std.proofs.Common.{◌≡◌, ◌∙◌, length, refl, sym, ap, subst, arith, rules, Some}
 use Rattle.std.specs.Prelude.{slice_get}
 use Rattle.std.specs.Option.{option_map}
 use Rattle.std.specs.Vec.{with_item}
-use Rattle.std.proofs.lemmas.Option.{slice_get_read}
 use Rattle.bow_units.specs.declared.sizes.Geometry.{Geometry}
 use Rattle.bow_core.specs.Views.{View}
 use Rattle.bow_history.specs.declared.items.Actor.TheVariants.{Lane}
@@ -14,9 +13,8 @@ use Rattle.bow_session.specs.Buffers.{HasBuffers, IsAskable, IsKeptFor, with_buf
 use Rattle.bow_session.specs.Desks.{Fits, run_of}
 use Rattle.bow_session.specs.Requests.{lane_lines, request_of, requests_in}
 use Rattle.bow_session.specs.Seats.{lent_with}
-use Rattle.bow_session.specs.Sessions.{state_in}
 use Rattle.bow_session.specs.Turns.{StepsBy}
-use Rattle.bow_session.proofs.Admitted.{admit_fits, admit_turn, has_room, lane_below, next, no_hand, none_left, not_empty}
+use Rattle.bow_session.proofs.Admitted.{admit_fits, admit_turn, has_room, next, no_hand, none_left, not_empty, seat_here}
 use Rattle.bow_machine.specs.MemoryIsSound.{IsAdmissible}
 use Rattle.bow_history.proofs.Lists.{one_of}
 use Rattle.bow_session.proofs.Filled.{made_whole}
@@ -28,9 +26,7 @@ returns-in_default-pop_front-clause-fits g c =
     let s = c.args.self.now in
     let k = c.requires.fits in
     let seat = c.index_mut-seat.result.now in
-    let below = lane_below s.core.geometry s.script (state_in (run_of s)) c.args.lane c.requires.ready in
-    let inside : c.args.lane < length s.records.seats.items = omega (arith, below, k.lanes) in
-    let here = slice_get_read s.records.seats.items (length s.records.seats.items) c.args.lane seat refl inside c.index_mut-seat.ensures.value in
+    let here = seat_here s k c.args.lane c.requires.ready seat c.index_mut-seat.ensures.value in
     let none : length seat.pending.items ≡ 0 = search (rules, c.in_default-pop_front.ensures.cases.0) in
     absurd (not_empty s.core.geometry s.script s.core.memory s.core.admitted s.records.seats.items c.args.lane seat k.sound here c.requires.ready c.requires.free (requests_in s.script) k.seats (none_left seat.pending.items none))
 
@@ -39,9 +35,7 @@ returns-in_default-pop_front-clause-turn g c =
     let s = c.args.self.now in
     let k = c.requires.fits in
     let seat = c.index_mut-seat.result.now in
-    let below = lane_below s.core.geometry s.script (state_in (run_of s)) c.args.lane c.requires.ready in
-    let inside : c.args.lane < length s.records.seats.items = omega (arith, below, k.lanes) in
-    let here = slice_get_read s.records.seats.items (length s.records.seats.items) c.args.lane seat refl inside c.index_mut-seat.ensures.value in
+    let here = seat_here s k c.args.lane c.requires.ready seat c.index_mut-seat.ensures.value in
     let none : length seat.pending.items ≡ 0 = search (rules, c.in_default-pop_front.ensures.cases.0) in
     absurd (not_empty s.core.geometry s.script s.core.memory s.core.admitted s.records.seats.items c.args.lane seat k.sound here c.requires.ready c.requires.free (requests_in s.script) k.seats (none_left seat.pending.items none))
 
@@ -50,9 +44,7 @@ request-requires-clause-numbers g c =
     let s = c.args.self.now in
     let k = c.requires.fits in
     let seat = c.index_mut-seat.result.now in
-    let below = lane_below s.core.geometry s.script (state_in (run_of s)) c.args.lane c.requires.ready in
-    let inside : c.args.lane < length s.records.seats.items = omega (arith, below, k.lanes) in
-    let here = slice_get_read s.records.seats.items (length s.records.seats.items) c.args.lane seat refl inside c.index_mut-seat.ensures.value in
+    let here = seat_here s k c.args.lane c.requires.ready seat c.index_mut-seat.ensures.value in
     let line = c.in-Some.line.now in
     let found : Some line ≡ slice_get (lane_lines s.script c.args.lane) (length seat.answered.items) = c.in-Some.ensures ∙ ap (slice_get (lane_lines s.script c.args.lane)) c.len.ensures in
     line_fits s.script c.args.lane (length seat.answered.items) line k.numbers (sym found)
@@ -62,9 +54,7 @@ request-requires-clause-own g c =
     let s = c.args.self.now in
     let k = c.requires.fits in
     let seat = c.index_mut-seat.result.now in
-    let below = lane_below s.core.geometry s.script (state_in (run_of s)) c.args.lane c.requires.ready in
-    let inside : c.args.lane < length s.records.seats.items = omega (arith, below, k.lanes) in
-    let here = slice_get_read s.records.seats.items (length s.records.seats.items) c.args.lane seat refl inside c.index_mut-seat.ensures.value in
+    let here = seat_here s k c.args.lane c.requires.ready seat c.index_mut-seat.ensures.value in
     let line = c.in-Some.line.now in
     let found : Some line ≡ slice_get (lane_lines s.script c.args.lane) (length seat.answered.items) = c.in-Some.ensures ∙ ap (slice_get (lane_lines s.script c.args.lane)) c.len.ensures in
     let n = next s.core.geometry s.script s.core.memory s.core.admitted s.records.seats.items c.args.lane seat k.sound here c.requires.ready c.requires.free (requests_in s.script) k.seats c.in-Some-pop_front.asked c.pop_front.new.self.items (c.in-Some-pop_front.ensures).items in
@@ -76,9 +66,7 @@ request-requires-clause-buffers g c =
     let s = c.args.self.now in
     let k = c.requires.fits in
     let seat = c.index_mut-seat.result.now in
-    let below = lane_below s.core.geometry s.script (state_in (run_of s)) c.args.lane c.requires.ready in
-    let inside : c.args.lane < length s.records.seats.items = omega (arith, below, k.lanes) in
-    let here = slice_get_read s.records.seats.items (length s.records.seats.items) c.args.lane seat refl inside c.index_mut-seat.ensures.value in
+    let here = seat_here s k c.args.lane c.requires.ready seat c.index_mut-seat.ensures.value in
     let free = no_hand s.core.geometry s.script s.core.memory s.core.admitted s.records.seats.items c.args.lane seat k.sound here c.requires.ready c.requires.free in
     subst (λ (z : Geometry). HasBuffers z.block_size 0 seat.buffers.items) (sym c.geometry-geometry.ensures.is) (subst (λ o. HasBuffers s.core.geometry.block_size (lent_with o) seat.buffers.items) free (k.seats c.args.lane seat here).buffers)
 
@@ -87,9 +75,7 @@ admit-ticket-requires-clause-place g c =
     let s = c.args.self.now in
     let k = c.requires.fits in
     let seat = c.index_mut-seat.result.now in
-    let below = lane_below s.core.geometry s.script (state_in (run_of s)) c.args.lane c.requires.ready in
-    let inside : c.args.lane < length s.records.seats.items = omega (arith, below, k.lanes) in
-    let here = slice_get_read s.records.seats.items (length s.records.seats.items) c.args.lane seat refl inside c.index_mut-seat.ensures.value in
+    let here = seat_here s k c.args.lane c.requires.ready seat c.index_mut-seat.ensures.value in
     let room = has_room s.core.geometry s.script s.core.memory s.core.admitted s.records.seats.items c.args.lane seat k.sound here c.requires.ready c.requires.free k.few in
     omega (arith, room, k.places)
 
@@ -98,9 +84,7 @@ admit-ticket-requires-clause-whole g c =
     let s = c.args.self.now in
     let k = c.requires.fits in
     let seat = c.index_mut-seat.result.now in
-    let below = lane_below s.core.geometry s.script (state_in (run_of s)) c.args.lane c.requires.ready in
-    let inside : c.args.lane < length s.records.seats.items = omega (arith, below, k.lanes) in
-    let here = slice_get_read s.records.seats.items (length s.records.seats.items) c.args.lane seat refl inside c.index_mut-seat.ensures.value in
+    let here = seat_here s k c.args.lane c.requires.ready seat c.index_mut-seat.ensures.value in
     let line = c.in-Some.line.now in
     let found : Some line ≡ slice_get (lane_lines s.script c.args.lane) (length seat.answered.items) = c.in-Some.ensures ∙ ap (slice_get (lane_lines s.script c.args.lane)) c.len.ensures in
     let wanted = request_of s.core.geometry.block_size line in
@@ -116,9 +100,7 @@ returns-clause-fits g c =
     let s = c.args.self.now in
     let k = c.requires.fits in
     let seat = c.index_mut-seat.result.now in
-    let below = lane_below s.core.geometry s.script (state_in (run_of s)) c.args.lane c.requires.ready in
-    let inside : c.args.lane < length s.records.seats.items = omega (arith, below, k.lanes) in
-    let here = slice_get_read s.records.seats.items (length s.records.seats.items) c.args.lane seat refl inside c.index_mut-seat.ensures.value in
+    let here = seat_here s k c.args.lane c.requires.ready seat c.index_mut-seat.ensures.value in
     let line = c.in-Some.line.now in
     let found : Some line ≡ slice_get (lane_lines s.script c.args.lane) (length seat.answered.items) = c.in-Some.ensures ∙ ap (slice_get (lane_lines s.script c.args.lane)) c.len.ensures in
     let wanted = request_of s.core.geometry.block_size line in
@@ -136,9 +118,7 @@ returns-clause-turn g c =
     let s = c.args.self.now in
     let k = c.requires.fits in
     let seat = c.index_mut-seat.result.now in
-    let below = lane_below s.core.geometry s.script (state_in (run_of s)) c.args.lane c.requires.ready in
-    let inside : c.args.lane < length s.records.seats.items = omega (arith, below, k.lanes) in
-    let here = slice_get_read s.records.seats.items (length s.records.seats.items) c.args.lane seat refl inside c.index_mut-seat.ensures.value in
+    let here = seat_here s k c.args.lane c.requires.ready seat c.index_mut-seat.ensures.value in
     let line = c.in-Some.line.now in
     let found : Some line ≡ slice_get (lane_lines s.script c.args.lane) (length seat.answered.items) = c.in-Some.ensures ∙ ap (slice_get (lane_lines s.script c.args.lane)) c.len.ensures in
     let wanted = request_of s.core.geometry.block_size line in
