@@ -1,5 +1,5 @@
 -- What a restoration means for the checkpoint.
-use Rattle.std.proofs.Common.{ℕ, ◌<◌, ◌≡◌, ◌∙◌, Bool, true, List, [], ◌∷◌, Option, Some, map, take, length, get_or, Contains, arith, refl, sym, ap, subst, inl, inr}
+use Rattle.std.proofs.Common.{ℕ, ◌<◌, ◌≡◌, ◌∙◌, Bool, List, [], ◌∷◌, Option, Some, map, take, length, get_or, Contains, arith, refl, sym, ap, subst, inl, inr}
 use Rattle.bow_units.specs.declared.sizes.Geometry.{Geometry}
 use Rattle.bow_units.specs.Sizes.{IsValid}
 use Rattle.bow_log.specs.Generations.{Generation}

@@ -9,7 +9,7 @@ use Rattle.bow_log.specs.Spelling.{Fields}
 use Rattle.bow_log.specs.Generations.{Backup, IsBackup, backup_of}
 use Rattle.bow_log.specs.Rules.{IsLog}
 use Rattle.bow_chain.specs.Chains.{IsEntry}
-use Rattle.bow_chain.proofs.Sectors.{each_at, log_entries}
+use Rattle.bow_chain.proofs.Sectors.{log_entries}
 use Rattle.bow_restore.specs.Marks.{overlaps, since_mark}
 use Rattle.bow_restore.specs.Dests.{AreNoted}
 use Rattle.bow_restore.specs.Loops.{since_in, source_at}
@@ -42,9 +42,6 @@ pub source_last : (g : Geometry) (log : Fields) (i : ℕ) → i < length log.ent
 source_last g log i within =
     let long = length-map log.entries (backup_of g) in
     take_more (map (backup_of g) log.entries) i (backup_of g none) (omega (arith, long)) ∙ ap (λ (b : Backup). take i (map (backup_of g) log.entries) ++ b ∷ []) (get_or-map (backup_of g) log.entries i (record { source = 0; dest = 0; size = 0; sum = 0 }) (backup_of g none) within)
-
-pub source_is_entry : (g : Geometry) (log : Fields) (i : ℕ) → IsLog g log → i < length log.entries → IsEntry g (get_or log.entries i (record { source = 0; dest = 0; size = 0; sum = 0 }))
-source_is_entry g log i ok within = each_at (IsEntry g) log.entries i (record { source = 0; dest = 0; size = 0; sum = 0 }) within (log_entries g log ok)
 
 -- the entries replayed since are backups
 pub entries_since : (g : Geometry) (log : Fields) (i end : ℕ) → IsLog g log → Each (IsEntry g) (take (end - i) (drop i log.entries))

@@ -39,45 +39,21 @@ none : (g : Geometry) (before now : ℕ) (k d : Content) (answer : Forwarded) �
 none g before now k d answer is plain flushed =
     subst (Refused g before now k d) (sym is) (record { reason = tt; memory = λ e. absurd cc; tells = plain; left = (flushed.0, flushed_is k d flushed) })
 
+-- a header's fault but for the want of a magic is told itself
+told_itself : (fault : LogFault) (answer : Forwarded) → IsOfHeader fault → IsHeaderRefusal fault answer → answer ≡ BadHeader fault
+told_itself NoMagic answer of is = absurd of
+told_itself Version answer of is = is
+told_itself HeaderSize answer of is = is
+told_itself BlockSize answer of is = is
+told_itself Count answer of is = is
+told_itself Tail answer of is = absurd of
+told_itself Sector0 answer of is = is
+told_itself (Entry i) answer of is = absurd of
+
 pub refused_is : (g : Geometry) (before now : ℕ) (k d : Content) (fault : LogFault) (answer : Forwarded) → IsHeaderRefusal fault answer → ((fault ≡ NoMagic) × (HasMagic (contents_of k.now 0) → ⊥)) ⊎ (IsOfHeader fault × HasMagic (contents_of k.now 0))
     → header_fault g (contents_of k.now 0) ≡ Some fault → Flushed k d → Refused g before now k d answer
-refused_is g before now k d NoMagic answer is (inl h) first flushed = none g before now k d answer is h.1 flushed
-refused_is g before now k d NoMagic answer is (inr h) first flushed = absurd h.0
-refused_is g before now k d Version answer is (inl h) first flushed = absurd (differ h.0)
-  where
-    differ : Version ≡ NoMagic → ⊥
-    differ e = cc
-refused_is g before now k d Version answer is (inr h) first flushed = bad g before now k d Version answer is h.0 h.1 first flushed
-refused_is g before now k d HeaderSize answer is (inl h) first flushed = absurd (differ h.0)
-  where
-    differ : HeaderSize ≡ NoMagic → ⊥
-    differ e = cc
-refused_is g before now k d HeaderSize answer is (inr h) first flushed = bad g before now k d HeaderSize answer is h.0 h.1 first flushed
-refused_is g before now k d BlockSize answer is (inl h) first flushed = absurd (differ h.0)
-  where
-    differ : BlockSize ≡ NoMagic → ⊥
-    differ e = cc
-refused_is g before now k d BlockSize answer is (inr h) first flushed = bad g before now k d BlockSize answer is h.0 h.1 first flushed
-refused_is g before now k d Count answer is (inl h) first flushed = absurd (differ h.0)
-  where
-    differ : Count ≡ NoMagic → ⊥
-    differ e = cc
-refused_is g before now k d Count answer is (inr h) first flushed = bad g before now k d Count answer is h.0 h.1 first flushed
-refused_is g before now k d Tail answer is (inl h) first flushed = absurd (differ h.0)
-  where
-    differ : Tail ≡ NoMagic → ⊥
-    differ e = cc
-refused_is g before now k d Tail answer is (inr h) first flushed = absurd h.0
-refused_is g before now k d Sector0 answer is (inl h) first flushed = absurd (differ h.0)
-  where
-    differ : Sector0 ≡ NoMagic → ⊥
-    differ e = cc
-refused_is g before now k d Sector0 answer is (inr h) first flushed = bad g before now k d Sector0 answer is h.0 h.1 first flushed
-refused_is g before now k d (Entry i) answer is (inl h) first flushed = absurd (differ h.0)
-  where
-    differ : Entry i ≡ NoMagic → ⊥
-    differ e = cc
-refused_is g before now k d (Entry i) answer is (inr h) first flushed = absurd h.0
+refused_is g before now k d fault answer is (inl h) first flushed = none g before now k d answer (subst (λ f. IsHeaderRefusal f answer) h.0 is) h.1 flushed
+refused_is g before now k d fault answer is (inr h) first flushed = bad g before now k d fault answer (told_itself fault answer h.0 is) h.0 h.1 first flushed
 
 pub left_at : {T : Type 0} (g : Geometry) (content : T → Option Content) (disk : T) (k : Content) (answer : Forwarded) → Tells content (LeftForward g answer k) disk → LeftAtForward g content disk k answer
 left_at g content disk k Nothing t = t

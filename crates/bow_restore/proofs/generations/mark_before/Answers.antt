@@ -1,10 +1,11 @@
-use Rattle.std.proofs.Common.{◌≡◌, ◌+◌, ◌-◌, ◌∙◌, true, false, List, map, take, drop, get_or, refl, sym, ap, subst, arith, inl, inr}
+use Rattle.std.proofs.Common.{◌≡◌, ◌+◌, ◌-◌, ◌∙◌, true, false, List, length, map, take, drop, refl, sym, ap, subst, arith, inl, inr}
 use Rattle.std.specs.List.{AllByRecursion as Each}
 use Rattle.bow_log.specs.declared.entries.Entry.{Entry}
 use Rattle.bow_log.specs.Spelling.{Fields}
 use Rattle.bow_log.specs.Generations.{Backup, backup_of}
 use Rattle.bow_chain.specs.Contents.{contents_of}
 use Rattle.bow_chain.specs.Chains.{IsEntry}
+use Rattle.bow_chain.proofs.Sectors.{entry_in}
 use Rattle.bow_restore.specs.Dests.{AreNoted}
 use Rattle.bow_restore.specs.Marks.{overlaps}
 use Rattle.bow_restore.specs.Replaying.{Replayed, MarkMade, IsMarkCut, SameOthers, still_since}
@@ -12,7 +13,7 @@ use Rattle.bow_restore.specs.Loops.{since_in, source_at}
 use Rattle.bow_restore.proofs.Told.{Fits, now_put}
 use Rattle.bow_restore.proofs.Copied.{put_other}
 use Rattle.bow_restore.proofs.Cuts.{mark_made, mark_cut}
-use Rattle.bow_restore.proofs.EntryLoop.{due_is, source_is_entry, entries_since, still_none, still_all, front_map}
+use Rattle.bow_restore.proofs.EntryLoop.{due_is, entries_since, still_none, still_all, front_map}
 use Rattle.bow_disk.proofs.Moments.{tells_map, adds_map}
 use Rattle.bow_restore.proofs.Moments.{on_ok}
 use Rattle.bow_restore.proofs.generations.mark_before.Given.{Over}
@@ -35,7 +36,7 @@ module _ (g : Over) where
 pub is_due-requires-clause-entry : goal.is_due-requires-clause-entry
 is_due-requires-clause-entry g c =
     let all : c.deref-entries.result.now ≡ c.args.log.now.entries = c.deref-entries.ensures.0 ∙ ap (λ (l : Fields). l.entries) c.log.view_is in
-    subst (λ (es : List Entry). IsEntry c.args.geometry (get_or es c.args.index (record { source = 0; dest = 0; size = 0; sum = 0 }))) (sym all) (source_is_entry c.args.geometry c.args.log.now c.args.index c.requires.log (omega arith))
+    entry_in c.args.geometry c.args.log.now c.deref-entries.result.now c.args.index (record { source = 0; dest = 0; size = 0; sum = 0 }) all c.requires.log (omega (arith, ap (λ (es : List Entry). length es) all))
 
 pub returns-then-not-is_due-clause-marks : goal.returns-then-not-is_due-clause-marks
 returns-then-not-is_due-clause-marks g c = inr (miss g (goal.at.returns-then-not-is_due-clause-marks g c).After-is_due c.if-not-is_due.true, refl, refl)
