@@ -1,4 +1,4 @@
-use Rattle.std.proofs.Common.{◌≡◌, ◌≤◌, ◌+◌, ◌⊎◌, arith, refl, sym, ap, ◌∙◌, subst₂}
+use Rattle.std.proofs.Common.{◌≤◌, ◌+◌, ◌⊎◌, arith, refl, sym, ap, ◌∙◌, subst₂}
 use Rattle.std.proofs.lemmas.List.{length-set}
 use Rattle.bow_log.specs.Generations.{backup_of}
 use Rattle.bow_chain.specs.Tables.{place_in}
