@@ -11,7 +11,8 @@ ghost use Rattle.bow_session.specs.Plays.{Plays};
 ghost use Rattle.bow_session.specs.Requests.{lanes_of, requests_in};
 ghost use Rattle.bow_history.specs.Journal.{Plan};
 ghost use Rattle.bow_history.specs.Ends.{actor_in, turns_left};
-ghost use Rattle.bow_history.specs.Schedule.{actor_at, chosen, drawn, next_round};
+ghost use Rattle.bow_machine.specs.Ready.{is_ready};
+ghost use Rattle.bow_history.specs.Schedule.{actor_at, drawn, next_round};
 ghost use Rattle.bow_units.specs.Draws.{next_number};
 ghost use Rattle.std.specs.List.{list_all};
 
@@ -19,7 +20,7 @@ use crate::lines::line_of;
 use crate::payloads::request;
 use crate::records::Records;
 use crate::seats::{Asked, Hand, are_over, first_block, is_from, lent_blocks};
-use bow_core::{Core, Turn};
+use bow_core::{Core, Step, Turn};
 use bow_disk::Disk;
 use bow_history::Actor;
 use bow_ranges::Ranges;
@@ -81,7 +82,7 @@ impl<D: Disk, R: Ranges + Drop> Desk<D, R> {
         }
     }
 
-    // One step, of the actor who is drawn.
+    // One step, of the actor who is drawn: of the first ready one from a drawn number on, going round.
     pub(crate) fn turn(&mut self, draws: &mut Draws)
         requires fits { Fits self.old }
         requires left { list_all is_over self.old.records.seats.items ≡ false }
@@ -94,30 +95,18 @@ impl<D: Disk, R: Ranges + Drop> Desk<D, R> {
             self.new)) < turns_left (plan_in (run_of self.old)) (requests_in self.old.script) (state_in (run_of
             self.old)) }
     {
-        let actors = self.records.seats.len() as u32 + 2;
-        let drawn = draws.draw(actors);
-        let actor = self.chosen(drawn);
-        self.step(actor);
-    }
-
-    // The first ready actor from this one on, going round once.
-    fn chosen(&self, drawn: u32) -> Actor
-        requires fits { Fits self.now }
-        requires inside { drawn < lanes_of self.now.script + 2 }
-        ensures { result ≡ chosen (plan_in (run_of self.now)) (state_in (run_of self.now)) drawn }
-    {
         let lanes = self.records.seats.len() as u32;
         let mut left = lanes + 2;
-        let mut number = drawn;
+        let mut number = draws.draw(left);
         while left > 0 {
-            let actor = actor_at(lanes, number);
-            if self.is_ready(actor) {
-                return actor;
+            if self.attempt(actor_at(lanes, number)) {
+                return;
             }
             number = after_actor(lanes, number);
             left -= 1;
         }
-        actor_at(lanes, number)
+        // A whole round leads to the first again.
+        self.step(actor_at(lanes, number));
     }
 
     // One step of an actor that is ready.
@@ -128,26 +117,60 @@ impl<D: Disk, R: Ranges + Drop> Desk<D, R> {
         ensures turn { StepsBy D.stated D.content D.moment D.left_since D.faults (run_of self.old) actor (run_of
             self.new) }
     {
+        let _made = self.attempt(actor);
+    }
+
+    // One step of the actor, where it is ready: the device looks at that once. It is `false` exactly where it is not,
+    // and then nothing changes.
+    fn attempt(&mut self, actor: Actor) -> bool
+        requires fits { Fits self.old }
+        ensures fits { Fits self.new }
+        ensures ready { result ≡ is_actor_ready (plan_in (run_of self.old)) (state_in (run_of self.old)) actor }
+        ensures idle { result ≡ false → self.new ≡ self.old }
+        ensures turn { result ≡ true → StepsBy D.stated D.content D.moment D.left_since D.faults (run_of self.old) actor
+            (run_of self.new) }
+    {
         match actor {
-            Actor::Lane(lane) => self.step_lane(lane as usize),
-            Actor::Worker => self.go_on(Turn::Worker),
-            Actor::Command => self.go_on(Turn::Command),
+            Actor::Lane(lane) => self.attempt_lane(lane as usize),
+            Actor::Worker => self.attempt_turn(Turn::Worker),
+            Actor::Command => self.attempt_turn(Turn::Command),
         }
     }
 
     // The lane's request goes on, or its next one is taken in.
-    fn step_lane(&mut self, lane: usize)
+    fn attempt_lane(&mut self, lane: usize) -> bool
         requires fits { Fits self.old }
-        requires ready { is_actor_ready (plan_in (run_of self.old)) (state_in (run_of self.old)) (Lane lane) ≡ true }
         ensures fits { Fits self.new }
-        ensures turn { StepsBy D.stated D.content D.moment D.left_since D.faults (run_of self.old) (Lane lane) (run_of
-            self.new) }
+        ensures ready { result ≡ is_actor_ready (plan_in (run_of self.old)) (state_in (run_of self.old)) (Lane lane) }
+        ensures idle { result ≡ false → self.new ≡ self.old }
+        ensures turn { result ≡ true → StepsBy D.stated D.content D.moment D.left_since D.faults (run_of self.old)
+            (Lane lane) (run_of self.new) }
     {
+        if lane >= self.records.seats.len() {
+            return false;
+        }
         let seat = &self.records.seats[lane];
         match seat.hand {
-            Some(hand) => self.go_on(Turn::Map(hand.ticket)),
-            None => self.admit_next(lane),
+            Some(hand) => self.attempt_turn(Turn::Map(hand.ticket)),
+            None => self.attempt_next(lane),
         }
+    }
+
+    // The lane's next request is taken in, where it is of the present section.
+    fn attempt_next(&mut self, lane: usize) -> bool
+        requires fits { Fits self.old }
+        requires free { (state_in (run_of self.old)).hand lane ≡ None }
+        ensures fits { Fits self.new }
+        ensures ready { result ≡ is_actor_ready (plan_in (run_of self.old)) (state_in (run_of self.old)) (Lane lane) }
+        ensures idle { result ≡ false → self.new ≡ self.old }
+        ensures turn { result ≡ true → StepsBy D.stated D.content D.moment D.left_since D.faults (run_of self.old)
+            (Lane lane) (run_of self.new) }
+    {
+        if !self.is_lane_ready(lane) {
+            return false;
+        }
+        self.admit_next(lane);
+        true
     }
 
     // The device takes the lane's next request in.
@@ -182,19 +205,25 @@ impl<D: Disk, R: Ranges + Drop> Desk<D, R> {
         });
     }
 
-    // The device makes one step, and what it told is noted.
-    fn go_on(&mut self, turn: Turn)
+    // The device makes one step, where the turn is ready, and what it told is noted.
+    fn attempt_turn(&mut self, turn: Turn) -> bool
         requires fits { Fits self.old }
         requires actor { (actor : Actor) × IsActor (plan_in (run_of self.old)) (state_in (run_of self.old)) actor
             × (turn_of (state_in (run_of self.old)) actor ≡ Some turn) }
         ensures fits { Fits self.new }
-        ensures turn { (actor : Actor) → IsActor (plan_in (run_of self.old)) (state_in (run_of self.old)) actor
-            → turn_of (state_in (run_of self.old)) actor ≡ Some turn
+        ensures ready { result ≡ is_ready self.old.core.geometry self.old.core.memory turn }
+        ensures idle { result ≡ false → self.new ≡ self.old }
+        ensures turn { result ≡ true → (actor : Actor) → IsActor (plan_in (run_of self.old)) (state_in (run_of
+            self.old)) actor → turn_of (state_in (run_of self.old)) actor ≡ Some turn
             → StepsBy D.stated D.content D.moment D.left_since D.faults (run_of self.old) actor (run_of self.new) }
     {
         let told = self.core.step(turn);
+        if matches!(told, Step::Idle) {
+            return false;
+        }
         let calls = self.core.calls();
         self.records.note(told, calls);
+        true
     }
 }
 

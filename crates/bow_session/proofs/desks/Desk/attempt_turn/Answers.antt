@@ -1,8 +1,16 @@
-use Rattle.std.proofs.Common.{◌++◌, refl, ap, ◌∙◌}
+use Rattle.std.proofs.Common.{◌++◌, refl, sym, ap, ◌∙◌, subst, rules}
+use Rattle.bow_core.specs.Views.{View}
 use Rattle.bow_history.specs.Promises.{more}
+use Rattle.bow_session.specs.Desks.{Fits}
 use Rattle.bow_session.specs.Records.{item_told}
 use Rattle.bow_session.proofs.Turned.{is_of_lane, one_turn, fits_after}
-use Rattle.bow_session.proofs.desks.Desk.go_on.Goals as goal
+use Rattle.bow_session.proofs.desks.Desk.attempt_turn.Goals as goal
+use Rattle.bow_session.proofs.desks.Desk.attempt_turn.Goals.{in-Idle, in_default}
+
+pub returns-then-matches-clause-fits : goal.returns-then-matches-clause-fits
+returns-then-matches-clause-fits g c =
+    let s = c.args.self.now in
+    subst (λ (core : View g.row.D.Denot). Fits {D = g.row.D.Denot} {R = g.row.R.Denot} (record { core = core; script = s.script; records = s.records })) (sym (search (rules, c.step-told.ensures.still))) c.requires.fits
 
 pub note-requires : goal.note-requires
 note-requires g c =
@@ -17,7 +25,7 @@ returns-clause-fits g c =
     c.note.new.self c.note.ensures.journal moments c.note.ensures.seats c.note.ensures.room c.note.ensures.room_of_moments
 
 pub returns-clause-turn : goal.returns-clause-turn
-returns-clause-turn g c actor is_actor is_turn =
+returns-clause-turn g c made actor is_actor is_turn =
     let moments = c.note.ensures.moments ∙ ap (λ n. c.args.self.now.records.moments.items ++ more (item_told c.args.self.now.records.seats.items c.step-told.result) n) c.calls-calls.ensures in (
       _,
       refl,
