@@ -159,6 +159,18 @@ module _ {P Q : Type 0} (fits : ℕ → P → Type 0) where
         (λ k. ap (lane_times k) lanes ∙ lanes_same k) (λ k _. ap (job_times k) jobs) (ap (job_times l) jobs ∙ (none_here ∙ sym free'))
         (λ k i _. ap (given_times k i) given) (λ i. let a : given_times l i w.given ≡ given_times l i v.given = ap (given_times l i) given in let b : present i (r.cells l).answered ≡ present i c.answered = ap (present i) answer in omega arith) speaks
 
+  -- a lane's cell comes to another phase with the same counts
+  pub cell_goes_on : (size : ℕ) (words : List ℕ) (homes homes' : List (Option (Slot P Q))) (l word : ℕ) (c : Cell P Q) (ph : Phase) → CellOk fits size words homes l c → l < length words → word ≡ 4 * c.number + face ph
+      → asks c.phase ≡ asks ph → replies c.phase ≡ replies ph → InPhase (get_elem? homes' l) (record c { phase = ph }) ph → CellOk fits size (set words l word) homes' l (record c { phase = ph })
+  cell_goes_on size words homes homes' l word c ph ok near is same_asks same_replies slot = record {
+    word = get_or-set_same words l word 0 near ∙ is;
+    small = subst (λ n. c.number + n < 2 ^ 32) same_asks ok.small;
+    asks_are = ok.asks_are ∙ ap (λ n. c.number + n) same_asks;
+    replies_are = ok.replies_are ∙ ap (λ n. c.number + n) same_replies;
+    fit = ok.fit;
+    slot = slot;
+  }
+
   -- post's load
   pub hold_allowed : (slots id l : ℕ) (v : View P Q) (cs : List (ℕ × Slot P Q)) → l < slots → v.lanes ≡ lane_of v ∷ [] → (lane_of v).lane ≡ l → (lane_of v).stance ≡ Idle → v.hand ≡ []
       → Allows (Rule fits) slots id (v, cs) l (λ y. y) (holds_slot (step slots l 0 0 none) (v, cs))
@@ -183,14 +195,7 @@ module _ {P Q : Type 0} (fits : ℕ → P → Type 0) where
             (told_stay (length s.homes) r.cells l c' (longer_self c.asked) (longer_self c.answered) v.got vok.got)
             (subst (Each (λ x. HandTie (length s.homes) (e' ∷ []) x (put r.cells l c' x.lane))) (sym empty) tt)
             (length-set s.homes l none) (λ j other. set_else s.homes l j none other)
-            record {
-              word = get_or-set_same s.words l y 0 (omega arith) ∙ (ok.word ∙ ap (λ p. 4 * c.number + face p) ph);
-              small = subst (λ p. c.number + asks p < 2 ^ 32) ph ok.small;
-              asks_are = ok.asks_are ∙ ap (λ p. c.number + asks p) ph;
-              replies_are = ok.replies_are ∙ ap (λ p. c.number + replies p) ph;
-              fit = ok.fit;
-              slot = set_here s.homes l none near';
-            } refl,
+            (cell_goes_on r.size s.words s.homes homes l y c holding ok (omega arith) (ok.word ∙ ap (λ p. 4 * c.number + face p) ph) (ap asks ph) (ap replies ph) (set_here s.homes l none near')) refl,
         refl,
       )
 
@@ -296,14 +301,7 @@ module _ {P Q : Type 0} (fits : ℕ → P → Type 0) where
             (told_stay n r.cells l c' (longer_self c.asked) (longer_self c.answered) v.got vok.got)
             (subst (HandTie n v.lanes x) (sym (put_here r.cells l c')) record { told = told; phase = refl; number = number; speaks = speaks_here s r id l v e e at one is is }, tt)
             (length-set s.homes l none) (λ j other. set_else s.homes l j none other)
-            record {
-              word = get_or-set_same s.words l y 0 (omega arith) ∙ (ok.word ∙ ap (λ p. 4 * c.number + face p) ph);
-              small = subst (λ p. c.number + asks p < 2 ^ 32) ph ok.small;
-              asks_are = ok.asks_are ∙ ap (λ p. c.number + asks p) ph;
-              replies_are = ok.replies_are ∙ ap (λ p. c.number + replies p) ph;
-              fit = ok.fit;
-              slot = set_here s.homes l none near';
-            } refl,
+            (cell_goes_on r.size s.words s.homes homes l y c retiring ok (omega arith) (ok.word ∙ ap (λ p. 4 * c.number + face p) ph) (ap asks ph) (ap replies ph) (set_here s.homes l none near')) refl,
         ((λ _. (a, q, found, ap (λ (z : List P). get_elem? z e.number) t.asked ∙ told.ask, refl)), (λ miss. absurd (miss hit))),
       ) in result)
       (λ miss.

@@ -16,7 +16,7 @@ use Rattle.bow_tags.specs.Rule.{Phase, posted, taken, done, retiring, face, stan
 use Rattle.bow_tags.specs.Steps.{held, others, looked, entry, SpeaksForAll, GivenBelow, takes_job, answers}
 use Rattle.bow_tags.proofs.Lists.{each_append, each_filter, each_at, times_at, at_short, total_two, total_at, total_only, present_is, present_snoc, times-append}
 use Rattle.bow_tags.proofs.Moved.{put, put_here, Longer, SameLane, lanes_stay, jobs_stay, told_stay, hands_stay, moved}
-use Rattle.bow_tags.proofs.Keeps.{face_small, posted_phase, is_here, longer_self, looked_rule, no_job, in_phase}
+use Rattle.bow_tags.proofs.Keeps.{cell_goes_on, face_small, posted_phase, is_here, longer_self, looked_rule, no_job, in_phase}
 
 pub same_number : (a b : ℕ) → (a == b) ≡ true → a ≡ b
 same_number a b e = ⊎_elim (λ k. k) (λ n. absurd (let t : true ≡ false = sym e ∙ ne_eqb a b n in cc)) (either_way (ℕ_discrete a b))
@@ -96,14 +96,7 @@ module _ {P Q : Type 0} (fits : ℕ → P → Type 0) where
         takes l (Ask a),
         slot.2,
         moved fits s r id v w l c' new homes at near' (length-set s.homes l none) (λ i other. set_else s.homes l i none other)
-            record {
-              word = get_or-set_same s.words l new 0 (omega arith) ∙ (omega arith);
-              small = subst (λ p. c.number + asks p < 2 ^ 32) ph ok.small;
-              asks_are = ok.asks_are ∙ ap (λ p. c.number + asks p) ph;
-              replies_are = ok.replies_are ∙ ap (λ p. c.number + replies p) ph;
-              fit = ok.fit;
-              slot = set_here s.homes l none near';
-            }
+            (cell_goes_on fits r.size s.words s.homes homes l new c taken ok (omega arith) (omega arith) (ap asks ph) (ap replies ph) (set_here s.homes l none near'))
             (longer_self c.asked) (longer_self c.answered) (inl same) (free ∙ sym (ap holders ph)) (inl away)
             record {
               lanes = lanes_stay n r.cells l c' v.hand v.lanes (inl same) vok.lanes;
