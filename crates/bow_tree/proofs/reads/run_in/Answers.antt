@@ -7,8 +7,10 @@ use Rattle.bow_tree.specs.Trees.{Store, blocks_of, kinds_in, IsTree}
 use Rattle.bow_tree.proofs.Runs.{in_run_bound, front_bound, back_bound, none_in_run}
 use Rattle.bow_tree.proofs.Descents.{tree_known, tree_whole, rows_in, blocks_few, blocks_some}
 use Rattle.bow_tree.proofs.Around.{run_found}
-use Rattle.bow_tree.proofs.RunSteps.{run_step}
+use Rattle.bow_tree.proofs.RunSteps.{RunStep, run_step}
+use Rattle.bow_tree.proofs.reads.run_in.Given.{Over}
 use Rattle.bow_tree.proofs.reads.run_in.Goals as goal
+use Rattle.bow_tree.proofs.reads.run_in.Goals.{After-size_of}
 
 pub descent-init : goal.descent-init
 descent-init g c = record {
@@ -24,74 +26,66 @@ descent-init g c = record {
   high = λ k. none_in_run k Unchanged;
 }
 
+module _ (g : Over) where
+  -- the next step of the descent
+  next : (c : After-size_of g) → c.descent.known.first.count < blocks_of c.descent.height
+      → RunStep c.descent.height (c.descent.height - 1) (c.descent.block / blocks_of (c.descent.height - 1)) c.descent.known c.descent.tree (kinds_in c.args.height c.args.known c.args.tree) c.descent.invariant.pre c.descent.invariant.post
+  next c part =
+      let inv = c.descent.invariant in
+      let top = tree_known c.args.height c.args.known c.args.tree c.requires.tree in
+      run_step c.descent.height c.descent.block c.descent.known c.descent.tree (kinds_in c.args.height c.args.known c.args.tree) inv.pre inv.post inv.is_tree part inv.inside inv.parts (omega (arith, top.sized, blocks_few c.args.height c.requires.height))
+
 pub visit-node-requires : goal.visit-node-requires
 visit-node-requires g c =
-    let inv = c.descent.invariant in
-    let top = tree_known c.args.height c.args.known c.args.tree c.requires.tree in
-    let s = run_step c.descent.height c.descent.block c.descent.known c.descent.tree (kinds_in c.args.height c.args.known c.args.tree) inv.pre inv.post inv.is_tree (omega (arith, c.size_of.ensures.size)) inv.inside inv.parts (omega (arith, top.sized, blocks_few c.args.height c.requires.height)) in
+    let s = next g (goal.at.visit-node-requires g c).After-size_of (omega (arith, c.size_of.ensures.size)) in
     s.open_tree.width
 
 pub overflow_sub-height : goal.overflow_sub-height
 overflow_sub-height g c =
-    let inv = c.descent.invariant in
-    let top = tree_known c.args.height c.args.known c.args.tree c.requires.tree in
-    let s = run_step c.descent.height c.descent.block c.descent.known c.descent.tree (kinds_in c.args.height c.args.known c.args.tree) inv.pre inv.post inv.is_tree (omega (arith, c.size_of.ensures.size)) inv.inside inv.parts (omega (arith, top.sized, blocks_few c.args.height c.requires.height)) in
+    let s = next g (goal.at.overflow_sub-height g c).After-size_of (omega (arith, c.size_of.ensures.size)) in
     omega (arith, s.open_tree.tall)
 
 pub last_of-before-requires-clause-place : goal.last_of-before-requires-clause-place
 last_of-before-requires-clause-place g c =
-    let inv = c.descent.invariant in
-    let top = tree_known c.args.height c.args.known c.args.tree c.requires.tree in
-    let s = run_step c.descent.height c.descent.block c.descent.known c.descent.tree (kinds_in c.args.height c.args.known c.args.tree) inv.pre inv.post inv.is_tree (omega (arith, c.size_of.ensures.size)) inv.inside inv.parts (omega (arith, top.sized, blocks_few c.args.height c.requires.height)) in
+    let s = next g (goal.at.last_of-before-requires-clause-place g c).After-size_of (omega (arith, c.size_of.ensures.size)) in
     rw c.size_of-size.ensures.size (omega (arith, s.below))
 
 pub last_of-before-requires-clause-known : goal.last_of-before-requires-clause-known
 last_of-before-requires-clause-known g c =
     let inv = c.descent.invariant in
-    let top = tree_known c.args.height c.args.known c.args.tree c.requires.tree in
-    let s = run_step c.descent.height c.descent.block c.descent.known c.descent.tree (kinds_in c.args.height c.args.known c.args.tree) inv.pre inv.post inv.is_tree (omega (arith, c.size_of.ensures.size)) inv.inside inv.parts (omega (arith, top.sized, blocks_few c.args.height c.requires.height)) in
+    let s = next g (goal.at.last_of-before-requires-clause-known g c).After-size_of (omega (arith, c.size_of.ensures.size)) in
     rw (c.visit-node.ensures.node, c.size_of-size.ensures.size) (inv.pre, rows_in (c.descent.height - 1) c.descent.tree, inv.low, s.rows_right, s.low_room)
 
 pub first_of-after-requires-clause-place : goal.first_of-after-requires-clause-place
 first_of-after-requires-clause-place g c =
-    let inv = c.descent.invariant in
-    let top = tree_known c.args.height c.args.known c.args.tree c.requires.tree in
-    let s = run_step c.descent.height c.descent.block c.descent.known c.descent.tree (kinds_in c.args.height c.args.known c.args.tree) inv.pre inv.post inv.is_tree (omega (arith, c.size_of.ensures.size)) inv.inside inv.parts (omega (arith, top.sized, blocks_few c.args.height c.requires.height)) in
+    let s = next g (goal.at.first_of-after-requires-clause-place g c).After-size_of (omega (arith, c.size_of.ensures.size)) in
     rw c.size_of-size.ensures.size (omega (arith, s.below))
 
 pub first_of-after-requires-clause-known : goal.first_of-after-requires-clause-known
 first_of-after-requires-clause-known g c =
     let inv = c.descent.invariant in
-    let top = tree_known c.args.height c.args.known c.args.tree c.requires.tree in
-    let s = run_step c.descent.height c.descent.block c.descent.known c.descent.tree (kinds_in c.args.height c.args.known c.args.tree) inv.pre inv.post inv.is_tree (omega (arith, c.size_of.ensures.size)) inv.inside inv.parts (omega (arith, top.sized, blocks_few c.args.height c.requires.height)) in
+    let s = next g (goal.at.first_of-after-requires-clause-known g c).After-size_of (omega (arith, c.size_of.ensures.size)) in
     rw (c.visit-node.ensures.node, c.size_of-size.ensures.size) (inv.post, rows_in (c.descent.height - 1) c.descent.tree, inv.high, s.rows_right, s.high_room)
 
 pub part-known-requires-clause-place : goal.part-known-requires-clause-place
 part-known-requires-clause-place g c =
-    let inv = c.descent.invariant in
-    let top = tree_known c.args.height c.args.known c.args.tree c.requires.tree in
-    let s = run_step c.descent.height c.descent.block c.descent.known c.descent.tree (kinds_in c.args.height c.args.known c.args.tree) inv.pre inv.post inv.is_tree (omega (arith, c.size_of.ensures.size)) inv.inside inv.parts (omega (arith, top.sized, blocks_few c.args.height c.requires.height)) in
+    let s = next g (goal.at.part-known-requires-clause-place g c).After-size_of (omega (arith, c.size_of.ensures.size)) in
     rw c.size_of-size.ensures.size s.below
 
 pub below-tree-requires-clause-place : goal.below-tree-requires-clause-place
 below-tree-requires-clause-place g c =
-    let inv = c.descent.invariant in
-    let top = tree_known c.args.height c.args.known c.args.tree c.requires.tree in
-    let s = run_step c.descent.height c.descent.block c.descent.known c.descent.tree (kinds_in c.args.height c.args.known c.args.tree) inv.pre inv.post inv.is_tree (omega (arith, c.size_of.ensures.size)) inv.inside inv.parts (omega (arith, top.sized, blocks_few c.args.height c.requires.height)) in
+    let s = next g (goal.at.below-tree-requires-clause-place g c).After-size_of (omega (arith, c.size_of.ensures.size)) in
     rw c.size_of-size.ensures.size s.below
 
 pub descent-smaller : goal.descent-smaller
 descent-smaller g c =
-    let inv = c.descent.invariant in
-    let top = tree_known c.args.height c.args.known c.args.tree c.requires.tree in
-    let s = run_step c.descent.height c.descent.block c.descent.known c.descent.tree (kinds_in c.args.height c.args.known c.args.tree) inv.pre inv.post inv.is_tree (omega (arith, c.size_of.ensures.size)) inv.inside inv.parts (omega (arith, top.sized, blocks_few c.args.height c.requires.height)) in
+    let s = next g (goal.at.descent-smaller g c).After-size_of (omega (arith, c.size_of.ensures.size)) in
     omega (arith, s.open_tree.tall)
 
 pub descent-preserved : goal.descent-preserved
 descent-preserved g c =
     let inv = c.descent.invariant in
-    let top = tree_known c.args.height c.args.known c.args.tree c.requires.tree in
-    let s = run_step c.descent.height c.descent.block c.descent.known c.descent.tree (kinds_in c.args.height c.args.known c.args.tree) inv.pre inv.post inv.is_tree (omega (arith, c.size_of.ensures.size)) inv.inside inv.parts (omega (arith, top.sized, blocks_few c.args.height c.requires.height)) in
+    let s = next g (goal.at.descent-preserved g c).After-size_of (omega (arith, c.size_of.ensures.size)) in
     let size = blocks_of (c.descent.height - 1) in
     let some = blocks_some (c.descent.height - 1) in
     let rows = rows_in (c.descent.height - 1) c.descent.tree in
