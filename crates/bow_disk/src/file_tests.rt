@@ -2,303 +2,213 @@
 // give a part or become shorter.
 use crate::tests::{fill, filling, fillings};
 use crate::{Disk, FileDisk};
-use std::alloc::Allocator;
-use std::cell::Cell;
-use std::fs::{self, Metadata, OpenFile, OpenOptions};
-use std::io::{self, Read, Seek, SeekFrom, Write};
+use bow_noted::{Call, Noted, Notes};
+use std::alloc::Global;
+use std::fs::{self, OpenOptions};
 use std::rc::Rc;
 use std::rt::Files;
 use std::test::Fail;
 
 const SIZE: usize = 512;
 
-const OPEN: u64 = 1;
-
-const LENGTH: u64 = 2;
-
-const SEEK: u64 = 3;
-
-const READ: u64 = 4;
-
-const WRITE: u64 = 5;
-
-const SYNC_ALL: u64 = 6;
-
-const SYNC_DATA: u64 = 7;
-
-// What was asked for, a decimal digit a call, how many calls more go through, which call is refused, and how many
-// bytes one moves at most.
-#[derive(Drop)]
-struct Notes {
-    asked: Cell<u64>,
-    left: Cell<u64>,
-    refused: Cell<u64>,
-    most: Cell<usize>,
-}
-
-impl Notes {
-    fn new() -> Notes {
-        Notes {
-            asked: Cell::new(0),
-            left: Cell::new(u64::MAX),
-            refused: Cell::new(0),
-            most: Cell::new(usize::MAX),
-        }
-    }
-
-    fn note(&self, call: u64) -> io::Result<()> {
-        let asked = self.asked.get().saturating_mul(10);
-        self.asked.set(asked.saturating_add(call));
-        let left = self.left.get();
-        if left == 0 || call == self.refused.get() {
-            return Err(io::ErrorKind::Other.into());
-        }
-        self.left.set(left - 1);
-        Ok(())
-    }
-}
-
-// The files of a system, noted.
-#[derive(Clone, Drop)]
-struct Noted<H: Files + Clone + Drop> {
-    files: H,
-    notes: Rc<Notes>,
-}
-
-// A file of theirs.
-#[derive(Drop)]
-struct NotedFile<F> {
-    file: F,
-    notes: Rc<Notes>,
-}
-
-impl<F: Read> Read for NotedFile<F> {
-    fn read(&mut self, buf: &mut [u8]) -> io::Result<usize> {
-        self.notes.note(READ)?;
-        let most = self.notes.most.get().min(buf.len());
-        self.file.read(&mut buf[..most])
-    }
-}
-
-impl<F: Write> Write for NotedFile<F> {
-    fn write(&mut self, buf: &[u8]) -> io::Result<usize> {
-        self.notes.note(WRITE)?;
-        let most = self.notes.most.get().min(buf.len());
-        self.file.write(&buf[..most])
-    }
-
-    fn flush(&mut self) -> io::Result<()> {
-        self.file.flush()
-    }
-}
-
-impl<F: Seek> Seek for NotedFile<F> {
-    fn seek(&mut self, to: SeekFrom) -> io::Result<u64> {
-        self.notes.note(SEEK)?;
-        self.file.seek(to)
-    }
-}
-
-impl<F: OpenFile> OpenFile for NotedFile<F> {
-    fn metadata(&self) -> io::Result<Metadata> {
-        self.notes.note(LENGTH)?;
-        self.file.metadata()
-    }
-
-    fn set_len(&self, size: u64) -> io::Result<()> {
-        self.file.set_len(size)
-    }
-
-    fn sync_all(&self) -> io::Result<()> {
-        self.notes.note(SYNC_ALL)?;
-        self.file.sync_all()
-    }
-
-    fn sync_data(&self) -> io::Result<()> {
-        self.notes.note(SYNC_DATA)?;
-        self.file.sync_data()
-    }
-}
-
-impl<H: Files + Clone + Drop> Files for Noted<H> {
-    type File = NotedFile<H::File>;
-
-    type Dir = H::Dir;
-
-    fn open_file(&self, how: &OpenOptions, path: &str) -> io::Result<NotedFile<H::File>> {
-        self.notes.note(OPEN)?;
-        let file = self.files.open_file(how, path)?;
-        Ok(NotedFile {
-            file,
-            notes: self.notes.clone()?,
-        })
-    }
-
-    fn open_dir(&self, path: &str) -> io::Result<H::Dir> {
-        self.files.open_dir(path)
-    }
-
-    fn metadata(&self, path: &str) -> io::Result<Metadata> {
-        self.files.metadata(path)
-    }
-
-    fn symlink_metadata(&self, path: &str) -> io::Result<Metadata> {
-        self.files.symlink_metadata(path)
-    }
-
-    fn copy(&self, from: &str, to: &str) -> io::Result<u64> {
-        self.files.copy(from, to)
-    }
-
-    fn rename(&self, from: &str, to: &str) -> io::Result<()> {
-        self.files.rename(from, to)
-    }
-
-    fn remove_file(&self, path: &str) -> io::Result<()> {
-        self.files.remove_file(path)
-    }
-
-    fn create_dir(&self, path: &str) -> io::Result<()> {
-        self.files.create_dir(path)
-    }
-
-    fn remove_dir(&self, path: &str) -> io::Result<()> {
-        self.files.remove_dir(path)
-    }
-
-    fn remove_dir_all<B: Allocator>(&self, alloc: B, path: &str) -> io::Result<()> {
-        self.files.remove_dir_all(alloc, path)
-    }
-}
-
 // A disk over a file of two blocks that are full of ones, and what it asks for.
-fn over_two_blocks(
-    rt: &HostRuntime,
+fn over_two_blocks<H: Files + Clone + Drop>(
+    rt: &H,
+    alloc: Global,
     path: &str,
-) -> Result<(FileDisk<Noted<HostRuntime>>, Rc<Notes>), Fail> {
+) -> Result<(FileDisk<Noted<H>>, Rc<Notes>), Fail> {
     fs::write(rt, path, &[1u8; 2 * SIZE])?;
-    let notes = Rc::new(rt.alloc(), Notes::new())?;
-    let files = Noted {
-        files: rt.clone()?,
-        notes: notes.clone()?,
-    };
-    let disk = FileDisk::new(files, String::from_str(rt.alloc(), path)?, 512);
+    let notes = Rc::new(alloc, Notes::new())?;
+    let files = Noted::new(rt.clone()?, notes.clone()?);
+    let disk = FileDisk::new(files, String::from_str(alloc, path)?, 512);
     Ok((disk, notes))
+}
+
+// What a disk asks for as it tells its sizes, reads, writes and flushes.
+fn asked<D: Disk>(disk: &mut D, notes: &Notes) -> Option<[u64; 4]> {
+    disk.sizes().ok()?;
+    let sizes = notes.take();
+    filling(disk, 1)?;
+    let read = notes.take();
+    if !fill(disk, 1, 2) {
+        return None;
+    }
+    let written = notes.take();
+    disk.flush().ok()?;
+    Some([sizes, read, written, notes.take()])
+}
+
+fn asked_of<H: Files + Clone + Drop>(rt: &H, alloc: Global) -> Result<Option<[u64; 4]>, Fail> {
+    let path = "bow_disk_asked";
+    let (mut disk, notes) = over_two_blocks(rt, alloc, path)?;
+    let asked = asked(&mut disk, &notes);
+    fs::remove_file(rt, path)?;
+    Ok(asked)
 }
 
 #[test]
 fn each_call_asks_for_what_it_needs(rt: HostRuntime) -> Result<(), Fail> {
-    let path = "bow_disk_asked";
-    let (mut disk, notes) = over_two_blocks(&rt, path)?;
-    assert!(rt; disk.sizes().is_ok());
-    assert_eq!(rt;
-        notes.asked.get(),
-        12,
-        "the file is opened, and its length asked for"
-    );
-    notes.asked.set(0);
-    assert_eq!(rt; filling(&mut disk, 1), Some(1));
-    assert_eq!(rt; notes.asked.get(), 34, "a place is sought and read");
-    notes.asked.set(0);
-    assert!(rt; fill(&mut disk, 1, 2));
-    assert_eq!(rt; notes.asked.get(), 35, "a place is sought and written");
-    notes.asked.set(0);
-    assert!(rt; disk.flush().is_ok());
-    assert_eq!(rt; notes.asked.get(), 7, "the file's data are synced");
-    notes.most.set(1);
-    assert!(rt; fill(&mut disk, 0, 3), "byte after byte");
-    assert_eq!(rt; filling(&mut disk, 0), Some(3));
-    assert_eq!(rt; filling(&mut disk, 1), Some(2));
-    let kept = fs::read(&rt, path)?;
-    assert_eq!(rt; kept.len(), 2 * SIZE);
-    assert_eq!(rt; fillings(&kept), [Some(3), Some(2), None, None]);
-    fs::remove_file(&rt, path)?;
+    // The file is opened, and its length asked for. A place is sought and read, and sought and written. The data are
+    // synced.
+    assert_eq!(rt; asked_of(&rt, rt.alloc())?, Some([0x23, 0x45, 0x46, 0x7]));
     Ok(())
+}
+
+// Whether a disk writes and reads a block whose bytes move one by one.
+fn moves_bytes<H: Files + Clone + Drop>(rt: &H, alloc: Global) -> Result<bool, Fail> {
+    let path = "bow_disk_bytes";
+    let (mut disk, notes) = over_two_blocks(rt, alloc, path)?;
+    notes.move_at_most(1);
+    let written = fill(&mut disk, 0, 3) && filling(&mut disk, 0) == Some(3);
+    let kept = fs::read_in(rt, alloc, path)?;
+    fs::remove_file(rt, path)?;
+    Ok(written && kept.len() == 2 * SIZE && fillings(&kept) == [Some(3), Some(1), None, None])
+}
+
+#[test]
+fn a_file_may_move_byte_after_byte(rt: HostRuntime) -> Result<(), Fail> {
+    assert!(rt; moves_bytes(&rt, rt.alloc())?);
+    Ok(())
+}
+
+// Whether a disk fails to tell its sizes after so many calls, and tells them once calls go through.
+fn fails_to_tell<D: Disk>(disk: &mut D, notes: &Notes, through: u64) -> bool {
+    notes.let_through(through);
+    if disk.sizes().is_ok() {
+        return false;
+    }
+    notes.let_through(u64::MAX);
+    disk.sizes().is_ok()
+}
+
+fn tells_no_sizes<H: Files + Clone + Drop>(rt: &H, alloc: Global) -> Result<bool, Fail> {
+    let path = "bow_disk_refused_sizes";
+    for through in 0..2 {
+        let (mut disk, notes) = over_two_blocks(rt, alloc, path)?;
+        if !fails_to_tell(&mut disk, &notes, through) {
+            return Ok(false);
+        }
+    }
+    fs::remove_file(rt, path)?;
+    Ok(true)
 }
 
 #[test]
 fn each_refusal_fails_the_question_for_the_sizes(rt: HostRuntime) -> Result<(), Fail> {
-    let path = "bow_disk_refused_sizes";
-    for through in 0..2 {
-        let (mut disk, notes) = over_two_blocks(&rt, path)?;
-        notes.left.set(through);
-        assert!(rt; disk.sizes().is_err(), "after {through} calls");
-        notes.left.set(u64::MAX);
-        assert!(rt; disk.sizes().is_ok(), "the next one goes through");
-    }
-    fs::remove_file(&rt, path)?;
+    assert!(rt; tells_no_sizes(&rt, rt.alloc())?);
     Ok(())
+}
+
+// Whether a read and a write of block 1 fail that are refused after so many calls.
+fn fails_after<D: Disk>(disk: &mut D, notes: &Notes, through: u64) -> bool {
+    notes.let_through(through);
+    if filling(disk, 1).is_some() {
+        return false;
+    }
+    notes.let_through(through);
+    !fill(disk, 1, 2)
+}
+
+// Whether no read and no write goes past a refusal, and nothing of them is kept; then, byte by byte, none that is
+// refused in the midst.
+fn keeps_to_refusals<D: Disk>(disk: &mut D, notes: &Notes) -> bool {
+    if disk.sizes().is_err() || !fails_after(disk, notes, 0) || !fails_after(disk, notes, 1) {
+        return false;
+    }
+    notes.let_through(u64::MAX);
+    notes.refuse(Some(Call::Seek));
+    if filling(disk, 1).is_some() || fill(disk, 1, 2) {
+        return false;
+    }
+    notes.refuse(None);
+    if filling(disk, 1) != Some(1) {
+        return false;
+    }
+    notes.move_at_most(1);
+    fails_after(disk, notes, 300)
+}
+
+fn is_refused<H: Files + Clone + Drop>(rt: &H, alloc: Global) -> Result<bool, Fail> {
+    let path = "bow_disk_refused";
+    let (mut disk, notes) = over_two_blocks(rt, alloc, path)?;
+    let kept = keeps_to_refusals(&mut disk, &notes);
+    fs::remove_file(rt, path)?;
+    Ok(kept)
 }
 
 #[test]
 fn each_refusal_fails_its_read_or_write(rt: HostRuntime) -> Result<(), Fail> {
-    let path = "bow_disk_refused";
-    let (mut disk, notes) = over_two_blocks(&rt, path)?;
-    assert!(rt; disk.sizes().is_ok());
-    for through in 0..2 {
-        notes.left.set(through);
-        assert_eq!(rt; filling(&mut disk, 1), None, "after {through} calls");
-        notes.left.set(through);
-        assert!(rt; !fill(&mut disk, 1, 2), "after {through} calls");
-    }
-    notes.left.set(u64::MAX);
-    notes.refused.set(SEEK);
-    assert_eq!(rt; filling(&mut disk, 1), None, "no place is sought");
-    assert!(rt; !fill(&mut disk, 1, 2), "no place is sought");
-    notes.refused.set(0);
-    assert_eq!(rt; filling(&mut disk, 1), Some(1), "nothing was written");
-    fs::remove_file(&rt, path)?;
+    assert!(rt; is_refused(&rt, rt.alloc())?);
     Ok(())
 }
 
-#[test]
-fn a_refusal_in_the_midst_fails_the_call(rt: HostRuntime) -> Result<(), Fail> {
-    let path = "bow_disk_midst";
-    let (mut disk, notes) = over_two_blocks(&rt, path)?;
-    assert!(rt; disk.sizes().is_ok());
-    notes.most.set(1);
-    notes.left.set(300);
-    assert_eq!(rt; filling(&mut disk, 1), None);
-    notes.left.set(300);
-    assert!(rt; !fill(&mut disk, 1, 2));
-    fs::remove_file(&rt, path)?;
-    Ok(())
+// Whether a flush succeeds once the file is opened and synced, and not before.
+fn flushes_at_last<D: Disk>(disk: &mut D, notes: &Notes) -> bool {
+    notes.let_through(0);
+    if disk.flush().is_ok() {
+        return false;
+    }
+    notes.let_through(1);
+    if disk.flush().is_ok() {
+        return false;
+    }
+    notes.let_through(1);
+    disk.flush().is_ok()
+}
+
+fn is_synced_at_last<H: Files + Clone + Drop>(rt: &H, alloc: Global) -> Result<bool, Fail> {
+    let path = "bow_disk_unsynced";
+    let (mut disk, notes) = over_two_blocks(rt, alloc, path)?;
+    let flushed = flushes_at_last(&mut disk, &notes);
+    fs::remove_file(rt, path)?;
+    Ok(flushed)
 }
 
 #[test]
 fn a_refused_sync_fails_the_flush(rt: HostRuntime) -> Result<(), Fail> {
-    let path = "bow_disk_unsynced";
-    let (mut disk, notes) = over_two_blocks(&rt, path)?;
-    notes.left.set(0);
-    assert!(rt; disk.flush().is_err(), "the file is not opened");
-    notes.left.set(1);
-    assert!(rt; disk.flush().is_err(), "the file is opened, and not synced");
-    notes.left.set(1);
-    assert!(rt; disk.flush().is_ok());
-    fs::remove_file(&rt, path)?;
+    assert!(rt; is_synced_at_last(&rt, rt.alloc())?);
     Ok(())
+}
+
+// The bytes that fill both blocks once the file has lost half of the second one.
+fn left_when_shorter<H: Files + Clone + Drop>(
+    rt: &H,
+    alloc: Global,
+) -> Result<[Option<u8>; 2], Fail> {
+    let path = "bow_disk_shorter";
+    let (mut disk, _notes) = over_two_blocks(rt, alloc, path)?;
+    let before = filling(&mut disk, 1);
+    fs::write(rt, path, &[1u8; SIZE + SIZE / 2])?;
+    let left = [filling(&mut disk, 0), filling(&mut disk, 1)];
+    fs::remove_file(rt, path)?;
+    if before != Some(1) {
+        return Err(Fail::from("the whole file is read"));
+    }
+    Ok(left)
 }
 
 #[test]
 fn a_file_that_becomes_shorter_fails_a_read(rt: HostRuntime) -> Result<(), Fail> {
-    let path = "bow_disk_shorter";
-    let (mut disk, _notes) = over_two_blocks(&rt, path)?;
-    assert_eq!(rt; filling(&mut disk, 1), Some(1));
-    fs::write(&rt, path, &[1u8; SIZE + SIZE / 2])?;
-    assert_eq!(rt; filling(&mut disk, 0), Some(1));
-    assert_eq!(rt; filling(&mut disk, 1), None, "half a block is left");
-    fs::remove_file(&rt, path)?;
+    assert_eq!(rt; left_when_shorter(&rt, rt.alloc())?, [Some(1), None]);
     Ok(())
+}
+
+// The sizes of a file of 1,048,577 blocks and a rest.
+fn sizes_when_long<H: Files + Clone + Drop>(rt: &H, alloc: Global) -> Result<(u32, u64), Fail> {
+    let path = "bow_disk_long";
+    let (mut disk, _notes) = over_two_blocks(rt, alloc, path)?;
+    let file = OpenOptions::new().write(true).open(rt, path)?;
+    file.set_len(1_048_577 * 512 + 511)?;
+    let sizes = disk.sizes();
+    fs::remove_file(rt, path)?;
+    match sizes {
+        Ok(sizes) => Ok((sizes.block_size, sizes.blocks)),
+        Err(_) => Err(Fail::from("the file is there")),
+    }
 }
 
 #[test]
 fn more_blocks_than_a_device_has_are_counted(rt: HostRuntime) -> Result<(), Fail> {
-    let path = "bow_disk_long";
-    let (mut disk, _notes) = over_two_blocks(&rt, path)?;
-    let file = OpenOptions::new().write(true).open(&rt, path)?;
-    file.set_len(1_048_577 * 512 + 511)?;
-    let sizes = disk.sizes().expect(&rt, "the file is there");
-    assert_eq!(rt; (sizes.block_size, sizes.blocks), (512, 1_048_577));
-    fs::remove_file(&rt, path)?;
+    assert_eq!(rt; sizes_when_long(&rt, rt.alloc())?, (512, 1_048_577));
     Ok(())
 }
