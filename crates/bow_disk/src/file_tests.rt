@@ -3,8 +3,7 @@
 use crate::tests::{fill, filling, fillings};
 use crate::{Disk, FileDisk};
 use bow_noted::{Call, Noted, Notes};
-use std::alloc::Global;
-use std::fs::{self, OpenOptions};
+use std::fs::{self, OpenFile, OpenOptions};
 use std::rc::Rc;
 use std::rt::Files;
 use std::test::Fail;
@@ -12,11 +11,11 @@ use std::test::Fail;
 const SIZE: usize = 512;
 
 // A disk over a file of two blocks that are full of ones, and what it asks for.
-fn over_two_blocks<H: Files + Clone + Drop>(
+fn over_two_blocks<H: Files + AllocGlobal + Clone + Drop>(
     rt: &H,
-    alloc: Global,
     path: &str,
 ) -> Result<(FileDisk<Noted<H>>, Rc<Notes>), Fail> {
+    let alloc = rt.alloc();
     fs::write(rt, path, &[1u8; 2 * SIZE])?;
     let notes = Rc::new(alloc, Notes::new())?;
     let files = Noted::new(rt.clone()?, notes.clone()?);
@@ -38,9 +37,9 @@ fn asked<D: Disk>(disk: &mut D, notes: &Notes) -> Option<[u64; 4]> {
     Some([sizes, read, written, notes.take()])
 }
 
-fn asked_of<H: Files + Clone + Drop>(rt: &H, alloc: Global) -> Result<Option<[u64; 4]>, Fail> {
+fn asked_of<H: Files + AllocGlobal + Clone + Drop>(rt: &H) -> Result<Option<[u64; 4]>, Fail> {
     let path = "bow_disk_asked";
-    let (mut disk, notes) = over_two_blocks(rt, alloc, path)?;
+    let (mut disk, notes) = over_two_blocks(rt, path)?;
     let asked = asked(&mut disk, &notes);
     fs::remove_file(rt, path)?;
     Ok(asked)
@@ -50,24 +49,24 @@ fn asked_of<H: Files + Clone + Drop>(rt: &H, alloc: Global) -> Result<Option<[u6
 fn each_call_asks_for_what_it_needs(rt: HostRuntime) -> Result<(), Fail> {
     // The file is opened, and its length asked for. A place is sought and read, and sought and written. The data are
     // synced.
-    assert_eq!(rt; asked_of(&rt, rt.alloc())?, Some([0x23, 0x45, 0x46, 0x7]));
+    assert_eq!(rt; asked_of(&rt)?, Some([0x23, 0x45, 0x46, 0x7]));
     Ok(())
 }
 
 // Whether a disk writes and reads a block whose bytes move one by one.
-fn moves_bytes<H: Files + Clone + Drop>(rt: &H, alloc: Global) -> Result<bool, Fail> {
+fn moves_bytes<H: Files + AllocGlobal + Clone + Drop>(rt: &H) -> Result<bool, Fail> {
     let path = "bow_disk_bytes";
-    let (mut disk, notes) = over_two_blocks(rt, alloc, path)?;
+    let (mut disk, notes) = over_two_blocks(rt, path)?;
     notes.move_at_most(1);
     let written = fill(&mut disk, 0, 3) && filling(&mut disk, 0) == Some(3);
-    let kept = fs::read_in(rt, alloc, path)?;
+    let kept = fs::read(rt, path)?;
     fs::remove_file(rt, path)?;
     Ok(written && kept.len() == 2 * SIZE && fillings(&kept) == [Some(3), Some(1), None, None])
 }
 
 #[test]
 fn a_file_may_move_byte_after_byte(rt: HostRuntime) -> Result<(), Fail> {
-    assert!(rt; moves_bytes(&rt, rt.alloc())?);
+    assert!(rt; moves_bytes(&rt)?);
     Ok(())
 }
 
@@ -81,10 +80,10 @@ fn fails_to_tell<D: Disk>(disk: &mut D, notes: &Notes, through: u64) -> bool {
     disk.sizes().is_ok()
 }
 
-fn tells_no_sizes<H: Files + Clone + Drop>(rt: &H, alloc: Global) -> Result<bool, Fail> {
+fn tells_no_sizes<H: Files + AllocGlobal + Clone + Drop>(rt: &H) -> Result<bool, Fail> {
     let path = "bow_disk_refused_sizes";
     for through in 0..2 {
-        let (mut disk, notes) = over_two_blocks(rt, alloc, path)?;
+        let (mut disk, notes) = over_two_blocks(rt, path)?;
         if !fails_to_tell(&mut disk, &notes, through) {
             return Ok(false);
         }
@@ -95,7 +94,7 @@ fn tells_no_sizes<H: Files + Clone + Drop>(rt: &H, alloc: Global) -> Result<bool
 
 #[test]
 fn each_refusal_fails_the_question_for_the_sizes(rt: HostRuntime) -> Result<(), Fail> {
-    assert!(rt; tells_no_sizes(&rt, rt.alloc())?);
+    assert!(rt; tells_no_sizes(&rt)?);
     Ok(())
 }
 
@@ -128,9 +127,9 @@ fn keeps_to_refusals<D: Disk>(disk: &mut D, notes: &Notes) -> bool {
     fails_after(disk, notes, 300)
 }
 
-fn is_refused<H: Files + Clone + Drop>(rt: &H, alloc: Global) -> Result<bool, Fail> {
+fn is_refused<H: Files + AllocGlobal + Clone + Drop>(rt: &H) -> Result<bool, Fail> {
     let path = "bow_disk_refused";
-    let (mut disk, notes) = over_two_blocks(rt, alloc, path)?;
+    let (mut disk, notes) = over_two_blocks(rt, path)?;
     let kept = keeps_to_refusals(&mut disk, &notes);
     fs::remove_file(rt, path)?;
     Ok(kept)
@@ -138,7 +137,7 @@ fn is_refused<H: Files + Clone + Drop>(rt: &H, alloc: Global) -> Result<bool, Fa
 
 #[test]
 fn each_refusal_fails_its_read_or_write(rt: HostRuntime) -> Result<(), Fail> {
-    assert!(rt; is_refused(&rt, rt.alloc())?);
+    assert!(rt; is_refused(&rt)?);
     Ok(())
 }
 
@@ -156,9 +155,9 @@ fn flushes_at_last<D: Disk>(disk: &mut D, notes: &Notes) -> bool {
     disk.flush().is_ok()
 }
 
-fn is_synced_at_last<H: Files + Clone + Drop>(rt: &H, alloc: Global) -> Result<bool, Fail> {
+fn is_synced_at_last<H: Files + AllocGlobal + Clone + Drop>(rt: &H) -> Result<bool, Fail> {
     let path = "bow_disk_unsynced";
-    let (mut disk, notes) = over_two_blocks(rt, alloc, path)?;
+    let (mut disk, notes) = over_two_blocks(rt, path)?;
     let flushed = flushes_at_last(&mut disk, &notes);
     fs::remove_file(rt, path)?;
     Ok(flushed)
@@ -166,17 +165,16 @@ fn is_synced_at_last<H: Files + Clone + Drop>(rt: &H, alloc: Global) -> Result<b
 
 #[test]
 fn a_refused_sync_fails_the_flush(rt: HostRuntime) -> Result<(), Fail> {
-    assert!(rt; is_synced_at_last(&rt, rt.alloc())?);
+    assert!(rt; is_synced_at_last(&rt)?);
     Ok(())
 }
 
 // The bytes that fill both blocks once the file has lost half of the second one.
-fn left_when_shorter<H: Files + Clone + Drop>(
+fn left_when_shorter<H: Files + AllocGlobal + Clone + Drop>(
     rt: &H,
-    alloc: Global,
 ) -> Result<[Option<u8>; 2], Fail> {
     let path = "bow_disk_shorter";
-    let (mut disk, _notes) = over_two_blocks(rt, alloc, path)?;
+    let (mut disk, _notes) = over_two_blocks(rt, path)?;
     let before = filling(&mut disk, 1);
     fs::write(rt, path, &[1u8; SIZE + SIZE / 2])?;
     let left = [filling(&mut disk, 0), filling(&mut disk, 1)];
@@ -189,14 +187,14 @@ fn left_when_shorter<H: Files + Clone + Drop>(
 
 #[test]
 fn a_file_that_becomes_shorter_fails_a_read(rt: HostRuntime) -> Result<(), Fail> {
-    assert_eq!(rt; left_when_shorter(&rt, rt.alloc())?, [Some(1), None]);
+    assert_eq!(rt; left_when_shorter(&rt)?, [Some(1), None]);
     Ok(())
 }
 
 // The sizes of a file of 1,048,577 blocks and a rest.
-fn sizes_when_long<H: Files + Clone + Drop>(rt: &H, alloc: Global) -> Result<(u32, u64), Fail> {
+fn sizes_when_long<H: Files + AllocGlobal + Clone + Drop>(rt: &H) -> Result<(u32, u64), Fail> {
     let path = "bow_disk_long";
-    let (mut disk, _notes) = over_two_blocks(rt, alloc, path)?;
+    let (mut disk, _notes) = over_two_blocks(rt, path)?;
     let file = OpenOptions::new().write(true).open(rt, path)?;
     file.set_len(1_048_577 * 512 + 511)?;
     let sizes = disk.sizes();
@@ -209,6 +207,6 @@ fn sizes_when_long<H: Files + Clone + Drop>(rt: &H, alloc: Global) -> Result<(u3
 
 #[test]
 fn more_blocks_than_a_device_has_are_counted(rt: HostRuntime) -> Result<(), Fail> {
-    assert_eq!(rt; sizes_when_long(&rt, rt.alloc())?, (512, 1_048_577));
+    assert_eq!(rt; sizes_when_long(&rt)?, (512, 1_048_577));
     Ok(())
 }
