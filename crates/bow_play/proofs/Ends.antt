@@ -51,11 +51,11 @@ faults_more before first told now le most = omega (arith, le, most)
 -- The image of the opening.
 
 -- it stands for the opening state
-stands_opened : (g : Geometry) (image : List (List ℕ)) → IsPlain (slice_index_or image 0 []) → StandsFor g (opening image) (contents_of image)
+pub stands_opened : (g : Geometry) (image : List (List ℕ)) → IsPlain (slice_index_or image 0 []) → StandsFor g (opening image) (contents_of image)
 stands_opened g image plain = record { plain = plain; each = λ b below. (0, omega arith, refl) }
 
 -- and is ahead for it
-ahead_opened : (g : Geometry) (image : List (List ℕ)) → 0 < g.blocks → IsImage g.block_size g.blocks image → IsPlain (slice_index_or image 0 []) → StandsAheadToo g (opening image) (contents_of image)
+pub ahead_opened : (g : Geometry) (image : List (List ℕ)) → 0 < g.blocks → IsImage g.block_size g.blocks image → IsPlain (slice_index_or image 0 []) → StandsAheadToo g (opening image) (contents_of image)
 ahead_opened g image some bytes plain = (
   stands_opened g image plain,
   λ log spells. absurd (plain (log_has_magic g (contents_of image 0) log (λ i. byte_at (slice_index_or image 0 []) (bytes.each 0 some).are_bytes i) spells)),

@@ -64,7 +64,7 @@ module _ {D : Type 0} (stated : D → Option Geometry) (content : D → Option C
         passes = passes;
       }
 
-  did_told : (old : Run D) (turn : Turned) (new : View D) (c : Content) → content old.core.disk ≡ Some c → stated old.core.disk ≡ Some old.core.geometry → IsSoundSession (plan_in old) (state_in old)
+  pub did_told : (old : Run D) (turn : Turned) (new : View D) (c : Content) → content old.core.disk ≡ Some c → stated old.core.disk ≡ Some old.core.geometry → IsSoundSession (plan_in old) (state_in old)
       → PassesTurn stated content moment left faults old turn new → DidTold content moment left old.core.geometry (call_in (plan_in old) (state_in old) turn) (reply_in turn) c old.core.disk new.disk
   did_told old (Admits lane ticket op) new c is sizes sound passes = record {
     told = c;

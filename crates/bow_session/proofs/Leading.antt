@@ -133,7 +133,7 @@ slice_map f (x ∷ xs) zero inside = refl
 slice_map f (x ∷ xs) (suc i) inside = slice_map f xs i (omega (arith, inside))
 
 -- each item has a moment
-as_many : (plan : Plan) (s : Session) (calls : ℕ) (turns : List Turned) → length (moments_of plan s calls turns) ≡ length (journal_of plan s turns)
+pub as_many : (plan : Plan) (s : Session) (calls : ℕ) (turns : List Turned) → length (moments_of plan s calls turns) ≡ length (journal_of plan s turns)
 as_many plan s calls [] = refl
 as_many plan s calls (turn ∷ turns) = by (item_in plan s turn) (as_many plan (after_turn plan s turn) (calls + calls_in (call_in plan s turn)) turns)
   where

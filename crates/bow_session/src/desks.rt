@@ -227,8 +227,8 @@ impl<D: Disk, R: Ranges + Drop> Desk<D, R> {
     }
 }
 
-// The actor of a number: the lanes, then the worker, then the commands.
-fn actor_at(lanes: u32, number: u32) -> Actor
+/// The actor of a number: the lanes, then the worker, then the commands.
+pub fn actor_at(lanes: u32, number: u32) -> Actor
     requires { lanes ≤ 16 }
     ensures { (plan : Plan) → plan.lanes ≡ lanes → result ≡ actor_at plan number }
 {

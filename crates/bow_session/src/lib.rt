@@ -14,6 +14,7 @@ mod seats;
 mod sessions;
 
 pub use bow_history::{Actor, Item};
+pub use desks::actor_at;
 pub use parts::Part;
 pub use run_laws::run_law;
 pub use sessions::Session;

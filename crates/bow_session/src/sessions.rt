@@ -26,7 +26,7 @@ ghost use Rattle.bow_session.specs.Loading.{loaded};
 ghost use Rattle.bow_session.specs.Parts.{account_of};
 ghost use Rattle.bow_session.specs.Plays.{Plays};
 ghost use Rattle.bow_history.specs.Ends.{actor_in, turns_left};
-ghost use Rattle.bow_history.specs.Schedule.{FollowsDraws, drawn};
+ghost use Rattle.bow_history.specs.Schedule.{FollowsDraws, chosen, drawn};
 ghost use Rattle.bow_units.specs.Draws.{next_number};
 ghost use Rattle.bow_machine.specs.Steps.{payload_of};
 ghost use Rattle.bow_units.specs.Sizes.{IsBlockSize};
@@ -199,9 +199,11 @@ impl<D: Disk, R: Ranges + Drop> Session<D, R> {
     }
 
     /// Whether all requests are answered. Then none waits, and the journal has each request's answer, in its lane's
-    /// order and section by section.
+    /// order and section by section. Until then the first ready actor from any on, going round, is ready.
     pub fn over(&self) -> bool
         ensures over { IsTrue result ↔ IsOver self.now }
+        ensures ready { result ≡ false → (k : ℕ) → k < (plan_in self.now).lanes + 2 → is_actor_ready (plan_in self.now)
+            (state_in self.now) (chosen (plan_in self.now) (state_in self.now) k) ≡ true }
         ensures idle { result ≡ true → self.now.core.memory.requests ≡ [] }
         ensures buffers { result ≡ true → Agrees (plan_in self.now) (state_in self.now) (state_in self.now).kept }
         ensures complete { (first : View D) → WasLoaded D.stated D.content D.moment D.left_since D.faults first self.now
