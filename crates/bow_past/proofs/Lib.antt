@@ -1,8 +1,16 @@
+pub mod Arriving
 pub mod Beside
+pub mod Choosing
 pub mod Clauses
+pub mod Following
+pub mod Keeping
 pub mod Kept
+pub mod Playing
 pub mod Reached
 pub mod Reading
 pub mod Stepping
 pub mod Theorem
+pub mod Tracking
 pub mod Turning
+pub mod Twin
+pub mod Twinned

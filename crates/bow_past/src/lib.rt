@@ -7,8 +7,10 @@ mod laws;
 mod older;
 mod places;
 mod readers;
+mod running;
 mod steps;
 
 pub use ended::{Ended, PastStep};
 pub use laws::{agreement_law, past_law};
 pub use readers::Past;
+pub use running::run_beside;
