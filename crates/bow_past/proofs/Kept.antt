@@ -8,7 +8,12 @@ use Rattle.std.specs.declared.alloc.Global.{Global}
 use Rattle.bow_log.specs.Spelling.{Fields}
 use Rattle.bow_chain.proofs.Counting.{some_inj}
 use Rattle.bow_flat.specs.Flat.{put}
-use Rattle.bow_past.specs.Inside.{unboxed}
+use Rattle.bow_past.specs.Inside.{IsOfBlock, unboxed}
+use Rattle.bow_past.specs.declared.ended.Ended.{Ended}
+use Rattle.bow_past.specs.declared.ended.Ended.TheVariants.{Got, Failed, Strange}
+use Rattle.bow_past.specs.Lines.{IsWhole}
+use Rattle.bow_units.specs.Sizes.{IsBlockSize, IsValid}
+use Rattle.bow_units.specs.declared.sizes.Geometry.{Geometry}
 use Rattle.bow_past.specs.Readings.{log_there, missing_below}
 
 -- what is kept of a sequence in the list
@@ -162,3 +167,16 @@ grown_logs P logs new (Err e) each grown same n log is = each n log (subst (λ l
 pub each_front : {A : Type 0} (P : A → Type 0) (xs ys : List A) → Each P (xs ++ ys) → Each P xs
 each_front P [] ys each = tt
 each_front P (x ∷ xs) ys each = (each.0, each_front P xs ys each.1)
+
+-- what ended is of one block each, with one more that is
+pub sized_push : (size : ℕ) (xs : List Ended) (x : Ended) → ((i : ℕ) (e : Ended) → slice_get xs i ≡ Some e → IsOfBlock size e) → IsOfBlock size x → (i : ℕ) (e : Ended) → slice_get (xs ++ x ∷ []) i ≡ Some e → IsOfBlock size e
+sized_push size [] x each more zero e is = subst (IsOfBlock size) (some_inj is) more
+sized_push size [] x each more (suc i) e is = absurd (cc is)
+sized_push size (y ∷ xs) x each more zero e is = each 0 e is
+sized_push size (y ∷ xs) x each more (suc i) e is = sized_push size xs x (λ j f at. each (suc j) f at) more i e is
+
+-- so of a block's size
+pub whole : (g : Geometry) → IsValid g → (e : Ended) → IsOfBlock g.block_size e → IsWhole e
+whole g valid (Got bytes) is = subst IsBlockSize (sym is) valid.size
+whole g valid Failed is = tt
+whole g valid Strange is = tt

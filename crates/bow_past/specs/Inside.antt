@@ -15,7 +15,7 @@ use Rattle.bow_session.specs.Sessions.{Run}
 use Rattle.bow_past.specs.Reach.{IsWanted}
 use Rattle.bow_past.specs.Readings.{Reading, KeepsLog, next_block, with_ended}
 use Rattle.bow_past.specs.Steps.{FailsBlock, ReadsBeside}
-use Rattle.bow_past.specs.declared.ended.Ended.TheVariants.{Got, Strange}
+use Rattle.bow_past.specs.declared.ended.Ended.TheVariants.{Got, Failed, Strange}
 use Rattle.bow_past.specs.declared.ended.PastStep.{PastStep}
 use Rattle.bow_past.specs.declared.ended.PastStep.TheVariants as steps
 use Rattle.bow_past.specs.declared.ended.Ended.{Ended}
@@ -29,8 +29,14 @@ unboxed (Some log) = Some log.value
 abbrev pub reading_of : Geometry → Extent → List (Option (Box Fields Global)) → List Ended → Reading
 reading_of g extent logs ended = record { geometry = g; extent = extent; kept = map unboxed logs; ended = ended }
 
+-- of a block that was got there are so many bytes
+abbrev pub IsOfBlock : ℕ → Ended → Type 0
+IsOfBlock size (Got bytes) = length bytes ≡ size
+IsOfBlock size Failed = Unit {0}
+IsOfBlock size Strange = Unit {0}
+
 -- The blocks are on a valid device, at most 4096; what is kept are logs; there is a buffer for each block that has not
--- ended, with room for what becomes of it; and a buffer is of one block.
+-- ended, with room for what becomes of it; and a buffer is of one block, as is what was got of one.
 pub record IsReader (g : Geometry) (extent : Extent) (logs : List (Option (Box Fields Global)))
     (buffers : List (List ℕ)) (ended : List Ended) (room : ℕ) (block : List ℕ) : Type 0 where
   pub valid : IsValid g
@@ -40,6 +46,7 @@ pub record IsReader (g : Geometry) (extent : Extent) (logs : List (Option (Box F
   pub many : length buffers + length ended ≡ extent.count
   pub with_room : length buffers + length ended ≤ room
   pub one : length block ≡ g.block_size
+  pub sized : (i : ℕ) (e : Ended) → slice_get ended i ≡ Some e → IsOfBlock g.block_size e
 
 -- what was found at this place, where the log of this sequence was looked for
 abbrev pub FoundBy : {D : Type 0} (stated : D → Option Geometry) (content : D → Option Content) (moment : D → ℕ)

@@ -1,6 +1,7 @@
 pub mod Agreement
 pub mod Beside
 pub mod Inside
+pub mod Lines
 pub mod Reach
 pub mod Readings
 pub mod Running

@@ -4,6 +4,7 @@
 
 mod ended;
 mod laws;
+mod lines;
 mod older;
 mod places;
 mod readers;
@@ -12,5 +13,6 @@ mod steps;
 
 pub use ended::{Ended, PastStep};
 pub use laws::{agreement_law, past_law};
+pub use lines::reading_lines;
 pub use readers::Past;
 pub use running::run_beside;

@@ -1,5 +1,5 @@
 // A reader of the checkpoint.
-ghost use Rattle.std.specs.Prelude.{◌≡◌, ◌+◌, ◌-◌, ◌<◌, ◌≤◌, ◌++◌, ◌∷◌, ℕ, suc, [], length, replicate, slice_set, take, vec_capacity, IfSome, IfOk, OnErr, OnOk, None, Some, option_copied, slice_index_or};
+ghost use Rattle.std.specs.Prelude.{◌≡◌, ◌+◌, ◌-◌, ◌<◌, ◌≤◌, ◌++◌, ◌∷◌, ℕ, suc, [], length, replicate, slice_set, take, slice_get, vec_capacity, ◌^◌, IfSome, IfOk, OnErr, OnOk, None, Some, option_copied, slice_index_or};
 ghost use Rattle.std.specs.List.{AllByRecursion as Each};
 ghost use Rattle.bow_units.specs.Sizes.{IsValid};
 ghost use Rattle.bow_units.specs.declared.requests.Phase.TheVariants.{Trim, Arming};
@@ -7,6 +7,9 @@ ghost use Rattle.bow_log.specs.Generations.{Generation, generation_of};
 ghost use Rattle.bow_log.specs.Rules.{IsLog};
 ghost use Rattle.bow_chain.specs.Places.{pass};
 ghost use Rattle.bow_past.specs.Agreement.{Agrees};
+ghost use Rattle.bow_past.specs.Inside.{IsOfBlock};
+ghost use Rattle.bow_past.specs.Lines.{IsWhole};
+ghost use Rattle.bow_past.specs.declared.ended.Ended.{Ended};
 ghost use Rattle.bow_past.specs.Readings.{bytes_got, bytes_of, can_read, kept_of, missing_below, next_block, past_logs, with_ended};
 
 use crate::ended::Ended;
@@ -87,14 +90,16 @@ impl Past {
 
     /// What became of the first blocks, in their order.
     pub fn ended(&self) -> &[Ended]
-        ensures { result.now ≡ self.now.ended }
+        ensures is { result.now ≡ self.now.ended }
+        ensures sized { (i : ℕ) (e : Ended) → slice_get result.now i ≡ Some e → IsWhole e }
     {
         &self.ended
     }
 
     /// The blocks that it is to read.
     pub fn extent(&self) -> Extent
-        ensures { result ≡ self.now.extent }
+        ensures is { result ≡ self.now.extent }
+        ensures small { result.first + length self.now.ended < 2 ^ 64 }
     {
         self.extent
     }
@@ -182,6 +187,7 @@ impl Past {
     // No log was found: the places made for it go, and the next block ends without having been read.
     pub(crate) fn give_up(&mut self, places: usize, ended: Ended) -> u64
         requires left { length self.old.ended < self.old.extent.count }
+        requires sized { IsOfBlock self.old.geometry.block_size ended }
         ensures ended { self.new ≡ with_ended (record self.old { kept = take places self.old.kept }) ended }
         ensures block { result ≡ next_block self.old }
     {

@@ -3,10 +3,10 @@ use Rattle.std.specs.Prelude.{slice_get}
 use Rattle.std.specs.List.{AllByRecursion as Each}
 use Rattle.bow_log.specs.Rules.{IsLog}
 use Rattle.bow_log.specs.Spelling.{Fields}
-use Rattle.bow_past.specs.Inside.{unboxed}
+use Rattle.bow_past.specs.Inside.{IsOfBlock, unboxed}
 use Rattle.bow_past.specs.Readings.{Reading}
 use Rattle.bow_past.specs.declared.ended.Ended.{Ended}
-use Rattle.bow_past.proofs.Kept.{each_front, each_taken, map_taken}
+use Rattle.bow_past.proofs.Kept.{each_front, each_taken, map_taken, sized_push}
 use Rattle.bow_past.proofs.readers.Past.give_up.Goals as goal
 
 pub invariant_of-self : goal.invariant_of-self
@@ -25,6 +25,7 @@ invariant_of-self c =
       many = (let m = k.many in omega (arith, less, more, m));
       with_room = (let m = k.with_room in let r = c.push_ended.ensures.room in omega (arith, less, more, m, r));
       one = k.one;
+      sized = subst (λ l. (n : ℕ) (e : Ended) → slice_get l n ≡ Some e → IsOfBlock size e) (sym c.push_ended.ensures.items) (sized_push size i.ended.items c.args.ended k.sized (subst (λ (p : Reading). IsOfBlock p.geometry.block_size c.args.ended) (sym c.self.view_is) c.requires.sized));
     }
 
 pub returns-clause-ended : goal.returns-clause-ended

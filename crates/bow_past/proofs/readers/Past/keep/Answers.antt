@@ -22,6 +22,7 @@ invariant_of-self c =
       many = k.many;
       with_room = k.with_room;
       one = k.one;
+      sized = k.sized;
     }
 
 pub returns : goal.returns

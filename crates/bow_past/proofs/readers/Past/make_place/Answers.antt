@@ -17,6 +17,7 @@ invariant_of-self c =
       many = k.many;
       with_room = k.with_room;
       one = k.one;
+      sized = k.sized;
     }
 
 pub returns-clause-grown : goal.returns-clause-grown
