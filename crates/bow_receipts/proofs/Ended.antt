@@ -272,30 +272,30 @@ module _ {D R : Type 0} (stated : D → Option Geometry) (content : D → Option
   }
 
 -- The seat of a pass, with the seat of the server, at the end of the tags: its calls are those of its caller.
-pub own_of : (table : TableId) (size callers : ℕ) (allowed : ℕ → ℕ) (given : List (Entry Op Answer)) (passes : List Caller) (seats : List (Sitting Op Answer)) (words : List ℕ) (server : Sitting Op Answer)
-    → AreSeats table size callers allowed passes seats → server.view.given ≡ given → length words ≡ callers → length passes ≡ callers
+pub own_of : (table : TableId) (size callers : ℕ) (allowed : ℕ → ℕ) (section : ℕ → ℕ → ℕ) (given : List (Entry Op Answer)) (passes : List Caller) (seats : List (Sitting Op Answer)) (words : List ℕ) (server : Sitting Op Answer)
+    → AreSeats table size callers allowed section passes seats → server.view.given ≡ given → length words ≡ callers → length passes ≡ callers
     → Numbered (λ i (p : Caller). p.lane ≡ i) passes
     → Numbered (λ i (s : Sitting Op Answer). IsLastWord (slice_index words i) (lane_of s.view)) seats → AllGiven seats (server ∷ []) → AnsweredOnce words (server ∷ [])
     → ((lane : ℕ) → Below given lane (answered_of given lane)) → ((lane n : ℕ) (x : Entry Op Answer) → slice_get (given_of lane given) n ≡ Some x → x.number ≡ n)
     → (i : ℕ) (p : Caller) → slice_get passes i ≡ Some p → given_of i given ≡ p.got
-own_of table size callers allowed given passes seats words server are is many all placed last among once below numbers i p at =
+own_of table size callers allowed section given passes seats words server are is many all placed last among once below numbers i p at =
     let inside = at_within passes i p at in
     let found = seat_at seats i (let e = are.many in omega (arith, inside, e)) in
     let seat = found.0 in
     let both = are.each i p seat at found.1 in
     let lane : p.lane ≡ i = placed i p (elem_of passes i p at) in
     let word = last i seat (elem_of seats i seat found.1) in
-    let zeroth : word.0 ≡ 0 = word.3 both.0.idle in
-    let word_is : slice_index words i ≡ 4 * p.made = (let e = word.2 in let n = both.0.number_is in omega (arith, e, n, zeroth)) in
+    let zeroth : word.0 ≡ 0 = word.3 both.1.idle in
+    let word_is : slice_index words i ≡ 4 * p.made = (let e = word.2 in let n = both.1.number_is in omega (arith, e, n, zeroth)) in
     let made : Below given i p.made = λ n. (
     let o = once i n (omega (arith, inside, many, all)) in
     let one : times_given i n (server ∷ []) ≡ given_times i n given = (let e = ap (given_times i n) is in omega (arith, e)) in (
       (λ less. sym one ∙ o.0 (omega (arith, word_is, less))),
       (λ past. sym one ∙ o.1 (let low : p.made ≤ n = omega (arith, past) in omega (arith, word_is, low))),
     )) in
-    let own : AreOwn i p.made p.got = subst (λ l. AreOwn l p.made p.got) lane (subst (AreOwn p.lane p.made) both.1 both.0.own) in
+    let own : AreOwn i p.made p.got = subst (λ l. AreOwn l p.made p.got) lane (subst (AreOwn p.lane p.made) both.2 both.1.own) in
     own_calls given p.got i p.made (below i) made (numbers i) own (λ n x got_at.
-    let had : slice_get seat.view.got n ≡ Some x = ap (λ (xs : List (Entry Op Answer)). slice_get xs n) both.1 ∙ got_at in
+    let had : slice_get seat.view.got n ≡ Some x = ap (λ (xs : List (Entry Op Answer)). slice_get xs n) both.2 ∙ got_at in
     let a = among i seat n x (elem_of seats i seat found.1) (elem_of seat.view.got n x had) in
     (a.2, ap (λ (xs : List (Entry Op Answer)). slice_get xs a.2) (sym is) ∙ only a.0 a.1 a.2 x a.3 a.4))
   where
@@ -314,14 +314,14 @@ some_at (x ∷ xs) zero less = (x, refl)
 some_at (x ∷ xs) (suc j) less = some_at xs j (omega (arith, less))
 
 -- the pass of each seat
-pub seat_pass : (table : TableId) (size callers : ℕ) (allowed : ℕ → ℕ) (passes : List Caller) (seats : List (Sitting Op Answer)) → AreSeats table size callers allowed passes seats → Numbered (λ i (p : Caller). p.lane ≡ i) passes
-    → (i : ℕ) (s : Sitting Op Answer) → get_elem? seats i ≡ some s → (p : Caller) × IsPass table size callers allowed s i p.made p.may
-seat_pass table size callers allowed passes seats are placed i s at =
+pub seat_pass : (table : TableId) (size callers : ℕ) (allowed : ℕ → ℕ) (section : ℕ → ℕ → ℕ) (passes : List Caller) (seats : List (Sitting Op Answer)) → AreSeats table size callers allowed section passes seats → Numbered (λ i (p : Caller). p.lane ≡ i) passes
+    → (i : ℕ) (s : Sitting Op Answer) → get_elem? seats i ≡ some s → (p : Caller) × (present : ℕ) × IsPass table size callers allowed section s i p.made p.may present
+seat_pass table size callers allowed section passes seats are placed i s at =
     let here = get_of seats i s at in
     let inside = at_within seats i s here in
     let p = some_at passes i (let e = are.many in omega (arith, inside, e)) in
     let both = are.each i p.0 s p.1 here in
-    (p.0, subst (λ l. IsPass table size callers allowed s l (p.0).made (p.0).may) (placed i p.0 (elem_of passes i p.0 p.1)) both.0)
+    (p.0, both.0, subst (λ l. IsPass table size callers allowed section s l (p.0).made (p.0).may both.0) (placed i p.0 (elem_of passes i p.0 p.1)) both.1)
 
 -- the one of a list of one
 pub in_one : {A : Type 0} (xs : List A) (x y : A) (i : ℕ) → xs ≡ x ∷ [] → get_elem? xs i ≡ some y → (i ≡ 0) × (x ≡ y)

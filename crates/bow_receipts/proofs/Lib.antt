@@ -1,6 +1,7 @@
 pub mod OpAsks
 pub mod Admitting
 pub mod Beginning
+pub mod Calling
 pub mod Calls
 pub mod Ended
 pub mod Histories
@@ -8,6 +9,7 @@ pub mod Lists
 pub mod Noting
 pub mod Passing
 pub mod Rests
+pub mod Sectioning
 pub mod Serving
 pub mod Sums
 pub mod Turns

@@ -15,7 +15,8 @@ sum_at [] i less = absurd (omega (arith, less))
 sum_at (x ∷ xs) zero less = let c = cons x xs in omega (arith, c)
 sum_at (x ∷ xs) (suc i) less = let rest = sum_at xs i (omega (arith, less)) in let c = cons x xs in omega (arith, rest, c)
 
-over_shift : (f : ℕ → ℕ) (n : ℕ) → over_lanes f (suc n) ≡ f 0 + over_lanes (λ l. f (suc l)) n
+-- the first of them, and the others
+pub over_shift : (f : ℕ → ℕ) (n : ℕ) → over_lanes f (suc n) ≡ f 0 + over_lanes (λ l. f (suc l)) n
 over_shift f zero = refl
 over_shift f (suc n) = let rest = over_shift f n in omega (arith, rest)
 

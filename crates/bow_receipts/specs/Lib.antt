@@ -1,4 +1,5 @@
 pub mod Asking
+pub mod Called
 pub mod Calls
 pub mod Closing
 pub mod Copies
@@ -6,4 +7,5 @@ pub mod Hands
 pub mod Noted
 pub mod Openings
 pub mod Passes
+pub mod Sectioned
 pub mod Served

@@ -51,6 +51,7 @@ module _ {D R : Type 0} where
     pub server : new.server ≡ old.server
     pub hands : new.hands.items ≡ old.hands.items
     pub calls : new.calls.items ≡ old.calls.items
+    pub low : new.low ≡ old.low
     pub calls_room : vec_capacity new.calls ≡ vec_capacity old.calls
     pub journal_room : vec_capacity new.journal ≡ vec_capacity old.journal
 
@@ -79,6 +80,7 @@ module _ {D R : Type 0} where
     pub calls : new.calls.items ≡ old.calls.items ++ call_to old h op outcome ∷ []
     pub journal : new.journal.items
         ≡ old.journal.items ++ items.Answered h.job.lane h.job.number outcome ∷ []
+    pub low : new.low ≡ old.low
     pub calls_room : vec_capacity new.calls ≡ vec_capacity old.calls
     pub journal_room : vec_capacity new.journal ≡ vec_capacity old.journal
 

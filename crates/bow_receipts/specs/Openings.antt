@@ -1,5 +1,5 @@
 -- Callers before their first calls.
-use Rattle.std.specs.Prelude.{◌≡◌, ℕ, ◌<◌, ◌≤◌, List, [], length, slice_index_or, sum}
+use Rattle.std.specs.Prelude.{◌≡◌, ℕ, ◌<◌, ◌≤◌, List, [], length, slice_index_or, sum, Bool, true, false}
 use Rattle.atomic_table.specs.Seated.{TableId}
 use Rattle.bow_units.specs.declared.requests.Op.{Op}
 use Rattle.bow_tags.specs.Seats.{Sitting, Numbered, IsFirstLane, IsFirstServer, lanes_of}
@@ -27,6 +27,14 @@ pub record AreCallers (table : TableId) (size : ℕ) (lanes servers : List (Sitt
   pub each : Numbered (IsFirstLane table 1 size) lanes
   pub one : length servers ≡ 1
   pub serves : Numbered (IsFirstServer table 1 size) servers
+
+-- as many calls as it may make, or none yet
+abbrev pub all_or_none : Bool → ℕ → ℕ
+all_or_none true n = n
+all_or_none false n = 0
+
+abbrev pub opened : Bool → (ℕ → ℕ) → ℕ → ℕ
+opened full allowed lane = all_or_none full (allowed lane)
 
 -- the pass of caller i before its first call
 abbrev pub IsNewPass : (ℕ → ℕ) → ℕ → Caller → Type 0

@@ -25,26 +25,29 @@ pub record AreOwn (lane made : ℕ) (got : List (Entry Op Answer)) : Type 0 wher
 abbrev pub after_call : Caller → Op → Answer → Caller
 after_call p ask answer = record p { made = p.made + 1; got = p.got ++ entry p.lane p.made ask answer ∷ [] }
 
--- A pass between its calls: its seat is idle, at the number of the next call.
-pub record IsPass (table : TableId) (size callers : ℕ) (allowed : ℕ → ℕ) (seat : Sitting Op Answer)
-    (lane made may : ℕ) : Type 0 where
+-- A pass between its calls: its seat is idle, at the number of the next call; the calls that it may still make are of
+-- its present section.
+pub record IsPass (table : TableId) (size callers : ℕ) (allowed : ℕ → ℕ) (section : ℕ → ℕ → ℕ)
+    (seat : Sitting Op Answer) (lane made may present : ℕ) : Type 0 where
   pub table_is : seat.table ≡ table
   pub size_is : seat.view.size ≡ size
   pub lane_is : (lane_of seat.view).lane ≡ lane
   pub number_is : (lane_of seat.view).number ≡ made
   pub idle : (lane_of seat.view).stance ≡ Idle
   pub inside : lane < callers
-  pub may_is : may ≡ allowed lane
+  pub most : may ≤ allowed lane
   pub within : made ≤ may
   pub few : may ≤ 65536
+  pub here : (n : ℕ) → made ≤ n → n < may → section lane n ≡ present
   pub own : AreOwn lane made seat.view.got
 
 -- these are the seats of these passes
-pub record AreSeats (table : TableId) (size callers : ℕ) (allowed : ℕ → ℕ) (passes : List Caller)
-    (seats : List (Sitting Op Answer)) : Type 0 where
+pub record AreSeats (table : TableId) (size callers : ℕ) (allowed : ℕ → ℕ) (section : ℕ → ℕ → ℕ)
+    (passes : List Caller) (seats : List (Sitting Op Answer)) : Type 0 where
   pub many : length seats ≡ length passes
   pub each : (i : ℕ) (p : Caller) (s : Sitting Op Answer) → slice_get passes i ≡ Some p → slice_get seats i ≡ Some s
-      → IsPass table size callers allowed s p.lane p.made p.may × (s.view.got ≡ p.got)
+      → (present : ℕ) × IsPass table size callers allowed section s p.lane p.made p.may present
+      × (s.view.got ≡ p.got)
 
 -- there is room for the seats of so many callers and of one server
 pub record HaveRoom (callers : ℕ) (lanes servers : List (Sitting Op Answer)) (room one : ℕ) : Type 0 where

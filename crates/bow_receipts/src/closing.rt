@@ -1,8 +1,9 @@
 // A desk is closed.
-ghost use Rattle.std.specs.Prelude.{◌≡◌, ◌≤◌, [], length, vec_capacity};
+ghost use Rattle.std.specs.Prelude.{◌≡◌, ◌≤◌, ℕ, [], length, vec_capacity};
 ghost use Rattle.bow_tags.specs.Seats.{Numbered};
 ghost use Rattle.bow_receipts.specs.Closing.{IsClosed, entries_of};
 ghost use Rattle.bow_receipts.specs.Passes.{AreSeats};
+ghost use Rattle.bow_receipts.specs.Sectioned.{Between};
 
 use crate::asks::{Answer, Ask, Call};
 use crate::desk::Desk;
@@ -33,8 +34,9 @@ impl<J: Naming<D>, D: Disk, R: Ranges> Desk<J, D, R> {
     pub fn close(self, passes: Vec<Pass<J, D>>) -> Closed<D, R>
         requires all { length passes.items ≡ J.callers }
         requires order { Numbered (λ i pass. pass.lane ≡ i) passes.items }
-        ensures { IsClosed D.content D.moment D.left_since D.faults J.sizes J.callers J.begins passes.items result.core
-            result.journal.items (entries_of result.calls.items) }
+        ensures sections { (high : ℕ) × Between J.section 0 result.journal.items high }
+        ensures closed { IsClosed D.content D.moment D.left_since D.faults J.sizes J.callers J.begins passes.items
+            result.core result.journal.items (entries_of result.calls.items) }
     {
         let Desk {
             alloc: _,
@@ -53,6 +55,7 @@ impl<J: Naming<D>, D: Disk, R: Ranges> Desk<J, D, R> {
             hands: _,
             journal,
             calls,
+            low: _,
         } = service;
         servers.push_reserved(server);
         tags.close(lanes, servers);
@@ -71,7 +74,7 @@ fn seats_of<J: Naming<D>, D>(
 ) -> Vec<LaneSeat<Ask, Answer>>
     requires none { seats.items ≡ [] }
     requires room { length passes.items ≤ vec_capacity seats }
-    ensures { AreSeats J.table J.sizes.block_size J.callers J.allowed passes.items result.items }
+    ensures { AreSeats J.table J.sizes.block_size J.callers J.allowed J.section passes.items result.items }
 {
     for pass in passes {
         let Pass { seat, .. } = pass;

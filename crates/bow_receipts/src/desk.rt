@@ -67,7 +67,14 @@ impl<J: Naming<D>, D: Disk, R: Ranges> Desk<J, D, R> {
             Err(op) => return Err((op, CallFault::NoMemory)),
         };
         self.tags.post(&mut pass.seat, ask);
-        take_in(rt, &self.tags, &self.locked, pass.lane, pass.made);
+        take_in(
+            rt,
+            &self.tags,
+            &self.locked,
+            pass.lane,
+            pass.made,
+            pass.section,
+        );
         let answer = carry_out(rt, &self.tags, &self.locked, &mut pass.seat, pass.lane);
         pass.made += 1;
         Ok(answer)
@@ -86,13 +93,15 @@ fn take_in<J: Naming<D>, D: Disk, R: Ranges, H: Wait>(
     locked: &Mutex<Locked<J, D, R>>,
     lane: u32,
     number: u32,
+    section: u32,
 )
     requires own { tags.now ≡ J.table }
     requires lane { lane < J.callers }
     requires may { number < J.allowed lane }
+    requires section { section ≡ J.section lane number }
 {
     for _ in rt.forever() {
-        if locked.lock(rt).admit(tags, lane, number) {
+        if locked.lock(rt).admit(tags, lane, number, section) {
             return;
         }
         thread::yield_now();

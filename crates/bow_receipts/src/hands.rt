@@ -1,7 +1,7 @@
 // What the callers have in hand.
-ghost use Rattle.std.specs.Prelude.{◌≡◌, length};
+ghost use Rattle.std.specs.Prelude.{◌≡◌, ℕ, length, true};
 ghost use Rattle.bow_machine.specs.Steps.{extent_of};
-ghost use Rattle.bow_receipts.specs.Hands.{lane_with};
+ghost use Rattle.bow_receipts.specs.Hands.{hand_at, lane_with};
 
 use crate::asks::Copies;
 use bow_core::Ticket;
@@ -42,4 +42,16 @@ pub(crate) fn first_block(op: &Op) -> u64
         Op::Discard(extent) => extent.first,
         Op::Flush | Op::Prepare | Op::Commit => 0,
     }
+}
+
+// Whether nobody has a request in hand.
+pub(crate) fn is_free(hands: &[Option<Hand>]) -> bool
+    ensures { result ≡ true → (lane : ℕ) → hand_at hands.now lane ≡ None }
+{
+    for hand in hands {
+        if hand.is_some() {
+            return false;
+        }
+    }
+    true
 }

@@ -2,13 +2,17 @@
 #![tactic(auto)]
 
 mod asks;
+mod callers;
 mod closing;
 mod desk;
 mod hands;
 mod laws;
+mod lines;
 mod locked;
 mod naming;
+mod ops;
 mod passes;
+mod runs;
 mod seating;
 mod service;
 mod setting;
@@ -19,6 +23,7 @@ pub use desk::Desk;
 pub use laws::{calls_law, history_law};
 pub use naming::Naming;
 pub use passes::Pass;
+pub use runs::{Called, run_callers};
 pub use seating::Callers;
 
 #[cfg(test)]

@@ -1,6 +1,7 @@
 // The value under the lock.
 ghost use Rattle.std.specs.Prelude.{◌≡◌, ◌<◌, vec_capacity};
 ghost use Rattle.bow_receipts.specs.Passes.{HaveRoom};
+ghost use Rattle.bow_receipts.specs.Sectioned.{GoesBySections};
 ghost use Rattle.bow_receipts.specs.Served.{Serves};
 
 use crate::asks::{Answer, Ask};
@@ -37,6 +38,7 @@ impl<J: Naming<D>, D: Disk, R: Ranges> Model for Locked<J, D, R> {
     ghost use Rattle.bow_receipts.specs.declared.service.Service.{Service};
     ghost use Rattle.bow_receipts.specs.Passes.{HaveRoom};
     ghost use Rattle.bow_receipts.specs.Served.{Serves};
+    ghost use Rattle.bow_receipts.specs.Sectioned.{GoesBySections};
 
     ghost Value = { Service D R };
 
@@ -44,7 +46,8 @@ impl<J: Naming<D>, D: Disk, R: Ranges> Model for Locked<J, D, R> {
 
     ghost invariant = { λ l. HaveRoom J.callers l.lanes.items l.servers.items (vec_capacity l.lanes)
         (vec_capacity l.servers) × Serves D.stated D.content D.moment D.left_since D.faults J.sizes J.callers J.allowed
-        J.table J.begins l.service };
+        J.table J.begins l.service × GoesBySections J.section l.service.hands.items l.service.journal.items
+        l.service.low };
 }
 
 impl<J: Naming<D>, D: Disk, R: Ranges> Locked<J, D, R> {
@@ -54,6 +57,7 @@ impl<J: Naming<D>, D: Disk, R: Ranges> Locked<J, D, R> {
         servers: Vec<ServerSeat<Ask, Answer>>,
     ) -> Locked<J, D, R>
         requires room { HaveRoom J.callers lanes.items servers.items (vec_capacity lanes) (vec_capacity servers) }
+        requires sections { GoesBySections J.section service.hands.items service.journal.items service.low }
         requires serves { Serves D.stated D.content D.moment D.left_since D.faults J.sizes J.callers J.allowed J.table
             J.begins service }
     {
@@ -67,12 +71,19 @@ impl<J: Naming<D>, D: Disk, R: Ranges> Locked<J, D, R> {
     }
 
     // Takes the request of this number in, where its caller has posted it.
-    pub(crate) fn admit(&mut self, tags: &Tags<Ask, Answer>, lane: u32, number: u32) -> bool
+    pub(crate) fn admit(
+        &mut self,
+        tags: &Tags<Ask, Answer>,
+        lane: u32,
+        number: u32,
+        section: u32,
+    ) -> bool
         requires own { tags.now ≡ J.table }
         requires lane { lane < J.callers }
         requires may { number < J.allowed lane }
+        requires section { section ≡ J.section lane number }
     {
-        self.service.admit::<J>(tags, lane, number)
+        self.service.admit::<J>(tags, lane, number, section)
     }
 
     // One step for the caller. It says whether the device did anything.
@@ -94,10 +105,12 @@ impl<J: Naming<D>, D: Disk, R: Ranges> Locked<J, D, R> {
     }
 
     pub(crate) fn into_parts(self) -> Parts<D, R>
-        ensures serves { Serves D.stated D.content D.moment D.left_since D.faults J.sizes J.callers J.allowed J.table J.begins
-            result.service }
+        ensures serves { Serves D.stated D.content D.moment D.left_since D.faults J.sizes J.callers J.allowed J.table
+            J.begins result.service }
         ensures room { HaveRoom J.callers result.lanes.items result.servers.items (vec_capacity result.lanes)
             (vec_capacity result.servers) }
+        ensures sections { GoesBySections J.section result.service.hands.items result.service.journal.items
+            result.service.low }
     {
         let Locked {
             service,

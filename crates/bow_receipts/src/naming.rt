@@ -22,6 +22,9 @@ pub trait Naming<D> {
     /// How many calls each may make.
     ghost allowed: { ℕ → ℕ };
 
+    /// The section in which each call of a caller stands.
+    ghost section: { ℕ → ℕ → ℕ };
+
     /// The table of its tags.
     ghost table: { TableId };
 }
@@ -36,6 +39,8 @@ impl<D> Naming<D> for Brand {
     ghost callers = { 0 };
 
     ghost allowed = { λ lane. 0 };
+
+    ghost section = { λ lane number. 0 };
 
     ghost table = { record { words = 0; slots = 0; views_name = 0; atom = 0; block = 0; offset = 0; slot_names = [] } };
 }

@@ -6,7 +6,7 @@ ghost use Rattle.bow_receipts.specs.Copies.{read_by};
 ghost use Rattle.bow_receipts.specs.declared.hands.Hand.{Hand};
 
 use crate::asks::{Answer, Ask, Call, Copies};
-use crate::hands::{Hand, first_block, lane_of};
+use crate::hands::{Hand, first_block, is_free, lane_of};
 use crate::naming::Naming;
 use bow_core::{Core, Step, Ticket, Turn};
 use bow_disk::Disk;
@@ -15,8 +15,8 @@ use bow_ranges::Ranges;
 use bow_tags::{ServerSeat, Tags};
 use bow_units::{Op, Outcome, Payload};
 
-// The device, the one seat that serves its callers, what each of them has in hand, what was done, and the calls that
-// are answered.
+// The device, the one seat that serves its callers, what each of them has in hand, what was done, the calls that are
+// answered, and the section of the last request that was taken in.
 #[derive(Drop)]
 pub(crate) struct Service<D: Disk, R: Ranges> {
     pub(crate) core: Core<D, R>,
@@ -24,28 +24,38 @@ pub(crate) struct Service<D: Disk, R: Ranges> {
     pub(crate) hands: Vec<Option<Hand>>,
     pub(crate) journal: Vec<Item>,
     pub(crate) calls: Vec<Call>,
+    pub(crate) low: u32,
 }
 
 impl<D: Disk, R: Ranges> Service<D, R> {
     ghost use Rattle.bow_receipts.specs.Served.{Serves};
     ghost use Rattle.bow_receipts.specs.Noted.{IsOfHand, IsNotable, IsAnswerable, IsAnswered, IsNoted, IsTurnOf};
     ghost use Rattle.bow_receipts.specs.Hands.{hand_at, lane_with};
+    ghost use Rattle.bow_receipts.specs.Sectioned.{GoesBySections, MayBegin};
 
-    // Takes the request of this number in, where its caller has posted it.
+    // Takes the request of this number in, where its caller has posted it, and no request of an earlier section is in
+    // hand.
     pub(crate) fn admit<J: Naming<D>>(
         &mut self,
         tags: &Tags<Ask, Answer>,
         lane: u32,
         number: u32,
+        section: u32,
     ) -> bool
         requires own { tags.now ≡ J.table }
         requires serves { Serves D.stated D.content D.moment D.left_since D.faults J.sizes J.callers J.allowed J.table
             J.begins self.old }
         requires lane { lane < J.callers }
         requires may { number < J.allowed lane }
+        requires section { section ≡ J.section lane number }
+        requires sections { GoesBySections J.section self.old.hands.items self.old.journal.items self.old.low }
+        ensures sections { GoesBySections J.section self.new.hands.items self.new.journal.items self.new.low }
         ensures serves { Serves D.stated D.content D.moment D.left_since D.faults J.sizes J.callers J.allowed J.table
             J.begins self.new }
     {
+        if !self.may_begin(section) {
+            return false;
+        }
         let Ok((job, ask)) = tags.take(&mut self.server, lane, number) else {
             return false;
         };
@@ -58,7 +68,19 @@ impl<D: Disk, R: Ranges> Service<D, R> {
             first,
             copies,
         });
+        self.low = section;
         true
+    }
+
+    // Whether a request of this section may be taken in: none of a later one was, and none of an earlier one is in
+    // hand.
+    fn may_begin(&self, section: u32) -> bool
+        ensures { result ≡ true → MayBegin self.now.hands.items self.now.low section }
+    {
+        if section == self.low {
+            return true;
+        }
+        section > self.low && is_free(&self.hands)
     }
 
     // One step of the device: of the caller's own request where it can go on, and else of the worker or of the
@@ -68,6 +90,8 @@ impl<D: Disk, R: Ranges> Service<D, R> {
         requires serves { Serves D.stated D.content D.moment D.left_since D.faults J.sizes J.callers J.allowed J.table
             J.begins self.old }
         requires lane { lane < J.callers }
+        requires sections { GoesBySections J.section self.old.hands.items self.old.journal.items self.old.low }
+        ensures sections { GoesBySections J.section self.new.hands.items self.new.journal.items self.new.low }
         ensures serves { Serves D.stated D.content D.moment D.left_since D.faults J.sizes J.callers J.allowed J.table
             J.begins self.new }
     {

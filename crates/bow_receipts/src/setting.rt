@@ -1,8 +1,8 @@
 // A desk is set up.
-ghost use Rattle.std.specs.Prelude.{◌≡◌, ◌+◌, ◌*◌, ◌-◌, ◌^◌, ◌<◌, ◌≤◌, IfOk, IfErr, [], length, replicate, sum, Option, vec_capacity};
+ghost use Rattle.std.specs.Prelude.{◌≡◌, ◌+◌, ◌*◌, ◌-◌, ◌^◌, ◌<◌, ◌≤◌, IfOk, IfErr, [], length, replicate, sum, Option, true, ℕ, vec_capacity};
 ghost use Rattle.std.specs.Prelude.{None as NoValue};
 ghost use Rattle.bow_tags.specs.Seats.{Numbered, IsFirstLane};
-ghost use Rattle.bow_receipts.specs.Openings.{IsNewPass, may_of};
+ghost use Rattle.bow_receipts.specs.Openings.{IsNewPass, all_or_none, may_of, opened};
 
 use crate::asks::{Answer, Ask, Call};
 use crate::desk::Desk;
@@ -75,11 +75,19 @@ fn total_of(calls: &[u32]) -> usize
     total
 }
 
-// A pass for each caller.
+// So many calls, or none yet.
+fn all_or_none(full: bool, calls: u32) -> u32
+    ensures { result ≡ all_or_none full calls }
+{
+    if full { calls } else { 0 }
+}
+
+// A pass for each caller, which may make all its calls, or none yet.
 fn passes_of<J: Naming<D>, D>(
     alloc: Global,
     seats: Vec<LaneSeat<Ask, Answer>>,
     calls: &[u32],
+    full: bool,
 ) -> Result<Vec<Pass<J, D>>, AllocError>
     requires seats { Numbered (IsFirstLane J.table 1 J.sizes.block_size) seats.items }
     requires many { length seats.items ≡ length calls.now }
@@ -87,8 +95,9 @@ fn passes_of<J: Naming<D>, D>(
     requires callers { J.callers ≡ length calls.now }
     requires allowed { J.allowed ≡ may_of calls.now }
     requires total { sum calls.now ≤ 65536 }
+    requires plain { full ≡ true → (lane n : ℕ) → J.section lane n ≡ 0 }
     ensures { IfOk result (λ passes. (length passes.items ≡ J.callers)
-        × Numbered (IsNewPass J.allowed) passes.items) }
+        × Numbered (IsNewPass (opened full J.allowed)) passes.items) }
 {
     let mut passes = Vec::new(alloc);
     for seat in seats {
@@ -97,7 +106,8 @@ fn passes_of<J: Naming<D>, D>(
             seat,
             lane: lane as u32,
             made: 0,
-            may: calls[lane],
+            may: all_or_none(full, calls[lane]),
+            section: 0,
             of: PhantomData,
             over: PhantomData,
         })?;
@@ -116,6 +126,7 @@ impl<J: Naming<D>, D: Disk, R: Ranges> Desk<J, D, R> {
     ) -> Result<(Desk<J, D, R>, Vec<Pass<J, D>>), (Core<D, R>, NoMemory)>
         requires named { (J.table ≡ callers.table) × (J.sizes ≡ core.geometry) × (J.callers ≡ length callers.calls)
             × (J.allowed ≡ may_of callers.calls) }
+        requires plain { (lane n : ℕ) → J.section lane n ≡ 0 }
         requires begins { J.begins core }
         requires size { callers.size ≡ core.geometry.block_size }
         requires idle { core.memory.requests ≡ [] }
@@ -123,6 +134,29 @@ impl<J: Naming<D>, D: Disk, R: Ranges> Desk<J, D, R> {
         requires serials { core.admitted < 2 ^ 63 }
         requires early { core.calls ≤ 2 ^ 64 - 1 }
         ensures passes { IfOk result (λ r. (length r.1.items ≡ J.callers) × Numbered (IsNewPass J.allowed) r.1.items) }
+        ensures kept { IfErr result (λ e. e.0 ≡ core) }
+    {
+        Desk::<J, D, R>::begin(alloc, core, callers, true)
+    }
+
+    // The same, with passes that may make all their calls, or none yet.
+    pub(crate) fn begin(
+        alloc: Global,
+        core: Core<D, R>,
+        callers: Callers,
+        full: bool,
+    ) -> Result<(Desk<J, D, R>, Vec<Pass<J, D>>), (Core<D, R>, NoMemory)>
+        requires named { (J.table ≡ callers.table) × (J.sizes ≡ core.geometry) × (J.callers ≡ length callers.calls)
+            × (J.allowed ≡ may_of callers.calls) }
+        requires plain { full ≡ true → (lane n : ℕ) → J.section lane n ≡ 0 }
+        requires begins { J.begins core }
+        requires size { callers.size ≡ core.geometry.block_size }
+        requires idle { core.memory.requests ≡ [] }
+        requires places { core.places ≡ 16 }
+        requires serials { core.admitted < 2 ^ 63 }
+        requires early { core.calls ≤ 2 ^ 64 - 1 }
+        ensures passes { IfOk result (λ r. (length r.1.items ≡ J.callers) × Numbered (IsNewPass (opened full J.allowed))
+            r.1.items) }
         ensures kept { IfErr result (λ e. e.0 ≡ core) }
     {
         core.geometry();
@@ -137,7 +171,7 @@ impl<J: Naming<D>, D: Disk, R: Ranges> Desk<J, D, R> {
         let Ok(rooms) = Rooms::take(alloc, calls.len(), total) else {
             return Err((core, NoMemory));
         };
-        let Ok(passes) = passes_of::<J, D>(alloc, lanes, &calls) else {
+        let Ok(passes) = passes_of::<J, D>(alloc, lanes, &calls, full) else {
             return Err((core, NoMemory));
         };
         let Some(server) = servers.pop() else {
@@ -149,6 +183,7 @@ impl<J: Naming<D>, D: Disk, R: Ranges> Desk<J, D, R> {
             hands: rooms.hands,
             journal: rooms.journal,
             calls: rooms.calls,
+            low: 0,
         };
         let desk = Desk {
             alloc,

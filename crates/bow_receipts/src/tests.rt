@@ -1,5 +1,5 @@
 // A program with two threads over a disk in memory: each writes a text of its own, and reads it back.
-ghost use Rattle.std.specs.Prelude.{◌≡◌, ◌-◌, ◌^◌, ◌<◌, ◌≤◌, [], length, IfOk};
+ghost use Rattle.std.specs.Prelude.{◌≡◌, ◌-◌, ◌^◌, ◌<◌, ◌≤◌, ℕ, [], length, IfOk};
 ghost use Rattle.bow_receipts.specs.Openings.{may_of};
 
 use crate::{Answer, CallFault, Callers, Closed, Desk, Naming, Pass};
@@ -35,7 +35,7 @@ fn write_and_read<J: Naming<MemDisk>, H: Wait>(
     pass: &mut Pass<J, MemDisk>,
     text: &str,
 ) -> Option<Answer>
-    requires { J.sizes.block_size ≡ 512 }
+    requires sizes { J.sizes.block_size ≡ 512 }
     ensures { pass.new.lane ≡ pass.old.lane }
 {
     let own = Extent {
@@ -62,7 +62,7 @@ fn go<J: Naming<MemDisk>, H: Wait>(
     mut pass: Pass<J, MemDisk>,
     text: &str,
 ) -> (Pass<J, MemDisk>, Option<Answer>)
-    requires { J.sizes.block_size ≡ 512 }
+    requires sizes { J.sizes.block_size ≡ 512 }
     ensures { result.0.lane ≡ pass.lane }
 {
     let answer = write_and_read(rt, alloc, desk, &mut pass, text);
@@ -81,6 +81,7 @@ fn by_two<J: Naming<MemDisk> + Send + Sync, H: Threads + Wait + Sync>(
 ) -> Result<Ended, Fail>
     requires named { (J.table ≡ callers.table) × (J.sizes ≡ core.geometry) × (J.callers ≡ length callers.calls)
         × (J.allowed ≡ may_of callers.calls) }
+    requires plain { (lane n : ℕ) → J.section lane n ≡ 0 }
     requires begins { J.begins core }
     requires two { length callers.calls ≡ 2 }
     requires size { (callers.size ≡ core.geometry.block_size) × (core.geometry.block_size ≡ 512) }

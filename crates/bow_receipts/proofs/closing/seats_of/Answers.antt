@@ -19,7 +19,7 @@ loop-pass-preserved g c =
     record {
       split = middle l.yielded p rest next c.args.passes.items inv.split step;
       room = room_still rest next p l.seats.items c.push_reserved.new.self.items seat (vec_capacity l.seats) (vec_capacity c.push_reserved.new.self) step items.items items.capacity inv.room;
-      seats = seats_more g.J.Naming.table g.J.Naming.sizes.block_size g.J.Naming.callers g.J.Naming.allowed l.yielded l.seats.items c.push_reserved.new.self.items p seat inv.seats items.items
-          (subst (λ (q : Caller). IsPass g.J.Naming.table g.J.Naming.sizes.block_size g.J.Naming.callers g.J.Naming.allowed seat q.lane q.made q.may) c.pass.view_is c.pass.invariant)
+      seats = seats_more g.J.Naming.table g.J.Naming.sizes.block_size g.J.Naming.callers g.J.Naming.allowed g.J.Naming.section l.yielded l.seats.items c.push_reserved.new.self.items p seat inv.seats items.items c.pass.inside.section
+          (subst (λ (q : Caller). IsPass g.J.Naming.table g.J.Naming.sizes.block_size g.J.Naming.callers g.J.Naming.allowed g.J.Naming.section seat q.lane q.made q.may c.pass.inside.section) c.pass.view_is c.pass.invariant)
           (ap (λ (q : Caller). q.got) c.pass.view_is);
     }

@@ -7,5 +7,5 @@ abbrev pub invariant-loop-pass : goal.invariant-loop-pass
 invariant-loop-pass g l = record {
   split : l.yielded ++ l.pass-iterator.rest.items ≡ l.fn.passes.items;
   room : length l.seats.items + length l.pass-iterator.rest.items ≤ vec_capacity l.seats;
-  seats : AreSeats g.J.Naming.table g.J.Naming.sizes.block_size g.J.Naming.callers g.J.Naming.allowed l.yielded l.seats.items;
+  seats : AreSeats g.J.Naming.table g.J.Naming.sizes.block_size g.J.Naming.callers g.J.Naming.allowed g.J.Naming.section l.yielded l.seats.items;
 }

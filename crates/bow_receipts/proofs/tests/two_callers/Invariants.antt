@@ -9,5 +9,6 @@ ghosts-by_two g a = record {
   sizes = a.core.geometry;
   callers = length a.callers.calls;
   allowed = may_of a.callers.calls;
+  section = λ lane number. 0;
   table = a.callers.table;
 }

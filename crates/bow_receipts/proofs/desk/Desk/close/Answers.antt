@@ -14,8 +14,8 @@ close-requires-clause-lanes g c =
     let table = c.self.invariant in (
       are.many ∙ c.requires.all ∙ sym k.lanes_are ∙ ap lanes_of (sym table),
       λ i s at.
-          let p = seat_pass g.J.Naming.table g.J.Naming.sizes.block_size g.J.Naming.callers g.J.Naming.allowed c.args.passes.items c.seats_of-lanes.result.items are c.requires.order i s at in
-          (p.1.table_is ∙ sym table, p.1.lane_is),
+          let p = seat_pass g.J.Naming.table g.J.Naming.sizes.block_size g.J.Naming.callers g.J.Naming.allowed g.J.Naming.section c.args.passes.items c.seats_of-lanes.result.items are c.requires.order i s at in
+          (p.2.table_is ∙ sym table, p.2.lane_is),
     )
 
 pub close-requires-clause-servers : goal.close-requires-clause-servers
@@ -35,10 +35,13 @@ close-requires-clause-servers g c =
 
 pub close-requires-clause-free : goal.close-requires-clause-free
 close-requires-clause-free g c = inl (λ i s at.
-    (seat_pass g.J.Naming.table g.J.Naming.sizes.block_size g.J.Naming.callers g.J.Naming.allowed c.args.passes.items c.seats_of-lanes.result.items c.seats_of-lanes.ensures c.requires.order i s at).1.idle)
+    (seat_pass g.J.Naming.table g.J.Naming.sizes.block_size g.J.Naming.callers g.J.Naming.allowed g.J.Naming.section c.args.passes.items c.seats_of-lanes.result.items c.seats_of-lanes.ensures c.requires.order i s at).2.idle)
 
-pub returns : goal.returns
-returns g c =
+pub returns-clause-sections : goal.returns-clause-sections
+returns-clause-sections g c = (c.into_parts-service.result.service.low, (c.into_parts-service.ensures.sections).between)
+
+pub returns-clause-closed : goal.returns-clause-closed
+returns-clause-closed g c =
     let k = c.into_parts-service.ensures.serves in
     let s = c.into_parts-service.result.service in
     let server = s.server in
@@ -46,7 +49,7 @@ returns g c =
     let items : c.push_reserved.new.self.items ≡ server ∷ [] = c.push_reserved.ensures.items ∙ ap (λ (xs : List (Sitting Op Answer)). xs ++ server ∷ []) c.into_parts-service.ensures.room.no_servers in
     let free : server.view.jobs ≡ [] = close.free 0 server (ap (λ (xs : List (Sitting Op Answer)). get_elem? xs 0) items) in
     let callers : lanes_of c.self.inside.tags ≡ g.J.Naming.callers = ap lanes_of c.self.invariant ∙ k.lanes_are in
-    let own = own_of g.J.Naming.table g.J.Naming.sizes.block_size g.J.Naming.callers g.J.Naming.allowed server.view.given c.args.passes.items c.seats_of-lanes.result.items c.close.result.items server
+    let own = own_of g.J.Naming.table g.J.Naming.sizes.block_size g.J.Naming.callers g.J.Naming.allowed g.J.Naming.section server.view.given c.args.passes.items c.seats_of-lanes.result.items c.close.result.items server
     c.seats_of-lanes.ensures refl (close.words ∙ callers) c.requires.all c.requires.order close.last
     (subst (AllGiven c.seats_of-lanes.result.items) items close.got) (subst (AnsweredOnce c.close.result.items) items close.once) (k.kept).once (k.kept).numbers in
     subst (λ calls. IsClosed g.D.Disk.content g.D.Disk.moment g.D.Disk.left_since g.D.Disk.faults g.J.Naming.sizes g.J.Naming.callers g.J.Naming.begins c.args.passes.items s.core s.journal.items calls) (k.kept).entries

@@ -1,5 +1,6 @@
 use Rattle.bow_receipts.proofs.Serving.{told_has_room}
 use Rattle.bow_receipts.proofs.Noting.{serves_after}
+use Rattle.bow_receipts.proofs.Sectioning.{sectioned_noted}
 use Rattle.bow_receipts.proofs.service.Service.step.Goals as goal
 
 pub note-requires-clause-told : goal.note-requires-clause-told
@@ -13,4 +14,5 @@ returns g c = record {
       g.J.Naming.sizes g.J.Naming.callers g.J.Naming.allowed g.J.Naming.table g.J.Naming.begins
       c.args.self.now c.requires.serves c.next_turn-turn.result c.step-told.result c.step-told.new.self c.step-told.ensures.step c.next_turn-turn.ensures
       c.note.new.self c.note.ensures;
+  sections = sectioned_noted g.J.Naming.section _ c.note.new.self c.requires.sections c.step-told.result (note-requires-clause-told g c.before) c.note.ensures;
 }

@@ -6,7 +6,8 @@ use Rattle.bow_receipts.specs.declared.hands.Hand.{Hand}
 use Rattle.bow_receipts.specs.Openings.{may_of}
 use Rattle.bow_receipts.proofs.Beginning.{serves_first}
 use Rattle.bow_receipts.proofs.Passing.{only_one}
-use Rattle.bow_receipts.proofs.desk.Desk.set_up.Goals as goal
+use Rattle.bow_receipts.proofs.Sectioning.{sectioned_first}
+use Rattle.bow_receipts.proofs.desk.Desk.begin.Goals as goal
 
 pub new-requires-clause-serves : goal.new-requires-clause-serves
 new-requires-clause-serves g c =
@@ -27,3 +28,7 @@ new-requires-clause-serves g c =
     (server.1 ∙ ap (λ z. new_view (lanes_of z) 1 c.callers.inside.size [] (0 ∷ [])) table)
     (rooms.hands ∙ ap (λ n. replicate {A = Option Hand} n None) len) rooms.empty.0 rooms.empty.1
     (subst (λ n. 17 * n ≤ vec_capacity c.in-Ok.rooms.journal) total rooms.room.0) (subst (λ n. n ≤ vec_capacity c.in-Ok.rooms.calls) total rooms.room.1)
+
+pub new-requires-clause-sections : goal.new-requires-clause-sections
+new-requires-clause-sections g c =
+    sectioned_first g.J.Naming.section c.in-Ok.rooms.hands.items c.len.result c.in-Ok.rooms.journal.items (c.in-Ok.ensures).hands (c.in-Ok.ensures).empty.0
