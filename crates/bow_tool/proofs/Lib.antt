@@ -4,9 +4,12 @@ mod Cutting
 mod Drilling
 mod Imaging
 mod Making
+mod Opened
 mod Patterns
+mod Plans
 mod Playing
 mod Ranges
+mod Returning
 mod Running
 mod Telling
 mod Transfers

@@ -1,5 +1,7 @@
 -- The bytes of blocks that are patterns.
-use Rattle.std.proofs.Common.{◌≡◌, ℕ, zero, suc, ◌+◌, ◌*◌, ◌≤◌, List, [], ◌∷◌, ◌++◌, length, take, drop, Result, Ok, Err, IfOk, refl, sym, ap, ◌∙◌, arith, length-append, append-nil, length-drop}
+use Rattle.std.specs.Str.{bytes_eq}
+use Rattle.std.proofs.lemmas.Slice.Eq.{bytes_eq-Decides}
+use Rattle.std.proofs.Common.{◌≡◌, ℕ, zero, suc, ◌+◌, ◌*◌, ◌<◌, ◌≤◌, Bool, true, List, [], ◌∷◌, ◌++◌, length, take, drop, Result, Ok, Err, IfOk, refl, sym, ap, ◌∙◌, arith, length-append, append-nil, length-drop}
 use Rattle.std.proofs.lemmas.List.{take_at, take-append-le, drop-append-le}
 use Rattle.bow_units.specs.Pattern.{pattern}
 use Rattle.bow_units.specs.declared.sizes.Geometry.{Geometry}
@@ -7,6 +9,17 @@ use Rattle.bow_disk.specs.Bytes.{blocks_of, image_of}
 use Rattle.bow_units.proofs.PatternGroups.{length_groups}
 use Rattle.bow_disk.specs.Memory.{Memory, fresh}
 use Rattle.bow_tool.specs.Drills.{IsDrillDisk, drill_room, drill_sizes, pattern_blocks}
+
+-- bytes that are the same are told to be so
+pub same_bytes : (xs ys : List ℕ) (b : Bool) → b ≡ bytes_eq xs ys → xs ≡ ys → b ≡ true
+same_bytes xs ys b is same = is ∙ (bytes_eq-Decides xs ys).1 same
+
+-- one more block is counted where it is so
+pub count_on : (holds : ℕ → Type 0) (kept n more : ℕ) → (((b : ℕ) → b < n → holds b) → kept ≡ n) → (holds n → more ≡ 1) → ((b : ℕ) → b < n + 1 → holds b) → kept + more ≡ n + 1
+count_on holds kept n more front one all =
+    let before = front (λ b below. all b (omega (arith, below))) in
+    let here = one (all n (omega arith)) in
+    omega (arith, before, here)
 
 -- so many patterns, one after the other
 unfoldable pub pattern_bytes : ℕ → List ℕ

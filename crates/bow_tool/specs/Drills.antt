@@ -10,8 +10,8 @@ use Rattle.bow_disk.specs.Bytes.{image_of}
 use Rattle.bow_disk.specs.Disk.{IsCrash}
 use Rattle.bow_disk.specs.Memory.{Memory, LeftSince, content, fresh}
 use Rattle.bow_log.specs.Generations.{Generation}
-use Rattle.bow_chain.specs.Contents.{contents_of}
-use Rattle.bow_chain.specs.Kept.{IsPlain}
+use Rattle.bow_chain.specs.Contents.{Contents, contents_of}
+use Rattle.bow_chain.specs.Kept.{Holds, IsPlain}
 use Rattle.bow_chain.specs.Sound.{IsSound}
 use Rattle.bow_flat.specs.Flat.{opening}
 use Rattle.bow_guard.specs.Standing.{StandsFor}
@@ -131,6 +131,19 @@ pub record IsRerunFrom (g : Geometry) (candidates : List (List (List ℕ))) (las
   pub between : List (List (List ℕ))
   pub reruns : Reruns g first between last
 
+-- the image holds a checkpoint of these blocks, which held this then; block 0 held no log
+abbrev pub IsHeldIn : Geometry → (ℕ → Bool) → Contents → List (List ℕ) → Type 0
+IsHeldIn g used saved image = IsPlain (saved 0) × Holds g used saved (contents_of image)
+
+-- each block that was in use at the checkpoint is as it was
+abbrev pub AreBack : Geometry → (ℕ → Bool) → Contents → List (List ℕ) → Type 0
+AreBack g used saved image = (b : ℕ) → b < g.blocks → used b ≡ true → contents_of image b ≡ saved b
+
+-- the image holds a checkpoint that has, of each block that the drill keeps in use, the pattern of its number
+abbrev pub HoldsUsed : ℕ → List (List ℕ) → Type 0
+HoldsUsed number image = (used : ℕ → Bool) × (saved : Contents) × IsHeldIn drill_sizes used saved image
+    × ((b : ℕ) → b < used_blocks number → (used b ≡ true) × (saved b ≡ pattern b 0 512))
+
 -- what a restoration answers that ends well: both counts of the chain of the image, or that there is nothing to restore
 -- where block 0 begins with no magic
 abbrev pub EndedWell : Geometry → List (List ℕ) → Restored → Type 0
@@ -200,6 +213,7 @@ pub record IsDrilled (number : ℕ) (s : Run Memory) (turns : ℕ) (last : List 
     (text : List ℕ) : Type 0 where
   pub session : IsDrillSession number s turns
   pub reruns : IsRerunFrom drill_sizes (content s.core.disk.state).candidates (image_of drill_sizes last)
+  pub held : HoldsUsed number (image_of drill_sizes last)
   pub ended : EndedWell drill_sizes (image_of drill_sizes last) answer
   pub lines : IsDrillText number (status_of s.core.memory) turns s.journal answer (used_blocks number) text
 

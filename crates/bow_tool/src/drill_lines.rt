@@ -1,16 +1,17 @@
 // The lines of a drill, and what they count.
-ghost use Rattle.std.specs.Prelude.{◌≡◌, ◌*◌, ◌<◌, ◌≤◌, ℕ, count_by, length, IfOk};
+ghost use Rattle.std.specs.Prelude.{◌≡◌, ◌*◌, ◌<◌, ◌≤◌, ℕ, true, count_by, length, IfOk};
 ghost use Rattle.std.specs.List.{list_any};
+ghost use Rattle.bow_script.specs.Drills.{used_blocks as used_of};
 ghost use Rattle.bow_tool.specs.Drills.{HoldsPattern, IsDrillText, is_answer as answers, is_fault as faults, is_full as full, kept_line as kept_text, number_line as number_text, turns_line as turns_text};
 
 use crate::restores::told_restored;
 use bow_report::status_line;
 use bow_restore::Restored;
 use bow_session::Item;
-use bow_units::{NoMemory, Outcome, Status, fill_pattern};
+use bow_units::{Draws, NoMemory, Outcome, Status, fill_pattern};
 use std::alloc::Global;
 
-// The five lines.
+// The five lines, where each block in use was kept.
 pub(crate) fn drill_lines(
     alloc: Global,
     number: u64,
@@ -18,9 +19,10 @@ pub(crate) fn drill_lines(
     turns: u32,
     journal: &[Item],
     restored: Restored,
-    used: u32,
+    kept: u32,
 ) -> Result<Vec<u8>, NoMemory>
-    ensures { IfOk result (λ text. IsDrillText number status turns journal.now restored used text.items) }
+    requires { kept ≡ used_of number }
+    ensures { IfOk result (λ text. IsDrillText number status turns journal.now restored kept text.items) }
 {
     let Ok(restored_line) = told_restored(alloc, restored) else {
         return Err(NoMemory);
@@ -29,8 +31,16 @@ pub(crate) fn drill_lines(
     text.extend_from_slice(&status_line(alloc, status)?)?;
     text.extend_from_slice(&turns_line(alloc, turns, journal)?)?;
     text.extend_from_slice(&restored_line)?;
-    text.extend_from_slice(&kept_line(alloc, used, used)?)?;
+    text.extend_from_slice(&kept_line(alloc, kept, used_blocks(number))?)?;
     Ok(text)
+}
+
+// How many blocks stay in use, by the first draw.
+pub(crate) fn used_blocks(number: u64) -> u32
+    ensures is { result ≡ used_of number }
+    ensures few { result ≤ 1024 }
+{
+    512 + Draws::new(number).draw(256)
 }
 
 fn number_line(alloc: Global, number: u64) -> Result<Vec<u8>, NoMemory>
@@ -119,18 +129,37 @@ pub(crate) fn tells_fault(journal: &[Item]) -> bool
 pub(crate) fn count_kept(image: &[u8], used: u32) -> u32
     requires few { used ≤ 1024 }
     requires whole { length image.now ≡ 1024 * 512 }
-    ensures few { result ≤ used }
-    ensures all { result ≡ used → (b : ℕ) → b < used → HoldsPattern image.now b }
+    ensures all { ((b : ℕ) → b < used → HoldsPattern image.now b) → result ≡ used }
 {
     let mut kept = 0;
     for number in 0..used {
-        let at = number as usize * 512;
-        let mut wanted = [0u8; 512];
-        fill_pattern(number as u64, 0, &mut wanted);
-        let block = &image[at..at + 512];
-        if block == wanted.as_slice() {
-            kept += 1;
-        }
+        kept += kept_at(image, number);
     }
     kept
+}
+
+// 1 where this block of an image holds the pattern of its number, else 0.
+fn kept_at(image: &[u8], number: u32) -> u32
+    requires few { number < 1024 }
+    requires whole { length image.now ≡ 1024 * 512 }
+    ensures few { result ≤ 1 }
+    ensures one { HoldsPattern image.now number → result ≡ 1 }
+{
+    if is_pattern(image, number) {
+        return 1;
+    }
+    0
+}
+
+// Whether it holds that. Where it does, this says so.
+fn is_pattern(image: &[u8], number: u32) -> bool
+    requires few { number < 1024 }
+    requires whole { length image.now ≡ 1024 * 512 }
+    ensures { HoldsPattern image.now number → result ≡ true }
+{
+    let at = number as usize * 512;
+    let mut wanted = [0u8; 512];
+    fill_pattern(number as u64, 0, &mut wanted);
+    let block = &image[at..at + 512];
+    block == wanted.as_slice()
 }

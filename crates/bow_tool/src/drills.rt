@@ -1,11 +1,10 @@
 // The drill.
-ghost use Rattle.std.specs.Prelude.{◌≡◌, ◌≤◌, IfOk};
-ghost use Rattle.bow_script.specs.Drills.{used_blocks as used_of};
+ghost use Rattle.std.specs.Prelude.{IfOk};
 ghost use Rattle.bow_tool.specs.Drills.{IsDrilled};
 ghost use Rattle.bow_tool.specs.Outcomes.{IsDrillTold};
 
 use crate::drill_cuts::{cut_thrice, restore_last};
-use crate::drill_lines::{count_kept, drill_lines, tells_fault};
+use crate::drill_lines::{count_kept, drill_lines, tells_fault, used_blocks};
 use crate::drill_plays::{begin, play};
 use crate::outcomes::Outcome;
 use crate::refusals::Refusal;
@@ -15,7 +14,7 @@ use bow_restore::Restored;
 use bow_script::drill_script;
 use bow_session::Session;
 use bow_tree::RangeTree;
-use bow_units::{Draws, NoMemory, Phase};
+use bow_units::{Draws, NoMemory};
 use std::alloc::Global;
 
 /// A drill that was made: its session, as the cut found it; the turns of its second section; the image before the last
@@ -37,7 +36,8 @@ pub struct Drilled<R: Ranges> {
 ///
 /// `NoMemory` is answered for want of memory. The contracts of devices and restorations speak of any disk, and so allow
 /// a call to fail on this one too, which has no call that is listed to fail and room for all writes: the drill would
-/// give up with the same answer.
+/// give up with the same answer. Where none fails, the device is in the checkpoint, the image that is cut holds that,
+/// and each block in use is kept.
 pub fn drill<R: Ranges>(alloc: Global, number: u64) -> Result<Drilled<R>, NoMemory>
     ensures { IfOk result (λ d. IsDrilled number d.session d.turns d.last.items d.restored d.text.items) }
 {
@@ -48,20 +48,14 @@ pub fn drill<R: Ranges>(alloc: Global, number: u64) -> Result<Drilled<R>, NoMemo
     let mut session = begin(alloc, script)?;
     let turns = play(&mut session, seed, most);
     let journal = session.journal();
-    let status = session.status();
     if tells_fault(journal) {
         return Err(NoMemory);
     }
-    let Phase::Checkpoint = status.phase else {
-        return Err(NoMemory);
-    };
     let last = cut_thrice(alloc, session.disk(), seed)?;
     let (restored, image) = restore_last(alloc, &last)?;
-    let used = used_blocks(number);
-    if count_kept(&image, used) < used {
-        return Err(NoMemory);
-    }
-    let text = drill_lines(alloc, number, status, turns, journal, restored, used)?;
+    let kept = count_kept(&image, used_blocks(number));
+    let status = session.status();
+    let text = drill_lines(alloc, number, status, turns, journal, restored, kept)?;
     Ok(Drilled {
         session,
         turns,
@@ -83,12 +77,4 @@ pub(crate) fn make_drill(alloc: Global, number: u64) -> Outcome
         }
         Err(NoMemory) => Outcome::Refused(Refusal::NoMemory),
     }
-}
-
-// How many blocks stay in use, by the first draw.
-fn used_blocks(number: u64) -> u32
-    ensures is { result ≡ used_of number }
-    ensures few { result ≤ 1024 }
-{
-    512 + Draws::new(number).draw(256)
 }
