@@ -14,7 +14,7 @@ use Rattle.bow_restore.specs.Forwarding.{named_by}
 use Rattle.vold_commands.specs.Attempts.{marked, aborted, needs_checkpoint, needs_rollback, most_retries}
 use Rattle.bow_restore.specs.Limits.{IsLimit}
 use Rattle.bow_words.specs.declared.commands.Command.{Command}
-use Rattle.bow_words.specs.declared.commands.Command.TheVariants.{Play, Run, Restore, Check, Forward, Start, Mark, NeedsCheckpoint, NeedsRollback, Abort, Boot, Drill}
+use Rattle.bow_words.specs.declared.commands.Command.TheVariants.{Play, Run, Restore, Check, Forward, Start, Mark, NeedsCheckpoint, NeedsRollback, Abort, Boot, Drill, Past}
 use Rattle.bow_words.specs.Words.{Asks}
 use Rattle.bow_tool.specs.declared.outcomes.Outcome.{Outcome}
 use Rattle.bow_tool.specs.declared.outcomes.Outcome.TheVariants as outcome
@@ -29,11 +29,13 @@ use Rattle.bow_tool.specs.Attempts.{AttemptsInOrder, KeeperHolds, QuestionCause,
 use Rattle.bow_tool.specs.Boots.{BootCause, BootText}
 use Rattle.bow_tool.specs.Drills.{TellsDrill}
 
--- the numbers of the command are in their ranges: 1 to 8 servers, a limit of at least 1, at most 2147483646 retries
+-- the numbers of the command are in their ranges: 1 to 8 servers, a limit of at least 1, at most 2147483646 retries,
+-- 1 to 4096 blocks that are read
 abbrev pub IsInRange : Command → Type 0
 IsInRange (Run servers) = (1 ≤ servers) × (servers ≤ 8)
 IsInRange (Restore limit) = IsLimit limit
 IsInRange (Start retries) = retries ≤ most_retries
+IsInRange (Past number first count) = (1 ≤ count) × (count ≤ 4096)
 IsInRange command = Unit {0}
 
 -- the command needs no threads
@@ -55,6 +57,7 @@ DoneText NeedsRollback c text = QuestionText needs_rollback c text
 DoneText (Abort retry) c text = StepText (aborted retry) c text
 DoneText Boot c text = BootText c text
 DoneText (Drill number) c text = AllLeft c × TellsDrill number text
+DoneText (Past number first count) c text = ⊥
 
 -- why the command is refused
 abbrev pub CommandCause : Command → Call → Refusal → Type 0
@@ -70,6 +73,7 @@ CommandCause NeedsRollback c refusal = QuestionCause needs_rollback c refusal
 CommandCause (Abort retry) c refusal = StepCause (aborted retry) c refusal
 CommandCause Boot c refusal = BootCause c refusal
 CommandCause (Drill number) c refusal = AllLeft c × (refusal ≡ NoMemory)
+CommandCause (Past number first count) c refusal = AllLeft c × (refusal ≡ NoMemory)
 
 -- the command was done, but the keeper failed to remove the attempts after it: so a script's run may end
 abbrev pub NotClearedText : Command → Call → List ℕ → Type 0
@@ -111,6 +115,7 @@ CommandInOrder NeedsRollback c = AttemptsInOrder c
 CommandInOrder (Abort retry) c = AttemptsInOrder c
 CommandInOrder Boot c = ImageInOrder c × AttemptsInOrder c
 CommandInOrder (Drill number) c = Unit {0}
+CommandInOrder (Past number first count) c = ⊥
 
 -- it may stop at a limit
 abbrev pub MayStop : Command → Type 0

@@ -297,5 +297,6 @@ fn obey<D: Disk, K: Keeper, S: Source>(
             (outcome_of(told_answer(alloc, answer)), disk, keeper)
         }
         Command::Drill(number) => (make_drill(alloc, number), disk, keeper),
+        Command::Past(_, _, _) => (Outcome::Refused(Refusal::NoMemory), disk, keeper),
     }
 }

@@ -2,6 +2,7 @@
 mod Naming
 mod Numbers
 mod Plainly
+mod Positionals
 mod Reading
 mod Simple
 mod Telling

@@ -5,21 +5,21 @@ use Rattle.clap.specs.Words.{Text}
 use Rattle.bow_words.specs.Names.{text_of}
 use Rattle.bow_words.specs.Words.{name_of}
 use Rattle.bow_words.specs.declared.names.Name.{Name}
-use Rattle.bow_words.specs.declared.names.Name.TheVariants.{Play, Run, Restore, Check, Forward, Start, Mark, NeedsCheckpoint, NeedsRollback, Abort, Boot, Drill}
+use Rattle.bow_words.specs.declared.names.Name.TheVariants.{Play, Run, Restore, Check, Forward, Start, Mark, NeedsCheckpoint, NeedsRollback, Abort, Boot, Drill, Past}
 use Rattle.bow_words.specs.declared.commands.Command.{Command}
 use Rattle.bow_words.specs.declared.commands.Command.TheVariants as command
 
--- a name can be told from its first byte and its length
+-- a name can be told from its third byte and its length
 abbrev told_by : ℕ → Name
 told_by n =
-    if n == 100 * 112 + 4 then Play else (if n == 100 * 114 + 7 then Restore else (if n == 100 * 99 + 5 then Check
-    else (if n == 100 * 114 + 3 then Run
-    else (if n == 100 * 102 + 7 then Forward else (if n == 100 * 115 + 5 then Start else (if n == 100 * 109 + 4 then Mark
-    else (if n == 100 * 110 + 16 then NeedsCheckpoint else (if n == 100 * 110 + 14 then NeedsRollback
-    else (if n == 100 * 97 + 5 then Abort else (if n == 100 * 100 + 5 then Drill else Boot))))))))))
+    if n == 100 * 97 + 4 then Play else (if n == 100 * 115 + 7 then Restore else (if n == 100 * 101 + 5 then Check
+    else (if n == 100 * 110 + 3 then Run else (if n == 100 * 115 + 4 then Past
+    else (if n == 100 * 114 + 7 then Forward else (if n == 100 * 97 + 5 then Start else (if n == 100 * 114 + 4 then Mark
+    else (if n == 100 * 101 + 16 then NeedsCheckpoint else (if n == 100 * 101 + 14 then NeedsRollback
+    else (if n == 100 * 111 + 5 then Abort else (if n == 100 * 105 + 5 then Drill else Boot)))))))))))
 
 abbrev number_of : Text → ℕ
-number_of word = 100 * get_or word 0 0 + length word
+number_of word = 100 * get_or word 2 0 + length word
 
 told : (name : Name) → told_by (number_of (text_of name)) ≡ name
 told Play = refl
@@ -34,6 +34,7 @@ told NeedsRollback = refl
 told Abort = refl
 told Boot = refl
 told Drill = refl
+told Past = refl
 
 -- names with one word are one name
 pub same_name : (a b : Name) → text_of a ≡ text_of b → a ≡ b
@@ -53,6 +54,7 @@ kind_of command.NeedsRollback = NeedsRollback
 kind_of (command.Abort retry) = Abort
 kind_of command.Boot = Boot
 kind_of (command.Drill n) = Drill
+kind_of (command.Past n first count) = Past
 
 -- the commands of a name
 abbrev pub IsNamed : Name → Command → Type 0
@@ -68,6 +70,7 @@ IsNamed NeedsRollback c = c ≡ command.NeedsRollback
 IsNamed Abort c = (retry : Bool) × (c ≡ command.Abort retry)
 IsNamed Boot c = c ≡ command.Boot
 IsNamed Drill c = (n : ℕ) × (c ≡ command.Drill n)
+IsNamed Past c = (n first count : ℕ) × (c ≡ command.Past n first count)
 
 pub spelled : (c : Command) → name_of c ≡ text_of (kind_of c)
 spelled (command.Play n) = refl
@@ -82,6 +85,7 @@ spelled command.NeedsRollback = refl
 spelled (command.Abort retry) = refl
 spelled command.Boot = refl
 spelled (command.Drill n) = refl
+spelled (command.Past n first count) = refl
 
 pub of_kind : (c : Command) → IsNamed (kind_of c) c
 of_kind (command.Play n) = (n, refl)
@@ -96,6 +100,7 @@ of_kind command.NeedsRollback = refl
 of_kind (command.Abort retry) = (retry, refl)
 of_kind command.Boot = refl
 of_kind (command.Drill n) = (n, refl)
+of_kind (command.Past n first count) = (n, first, count, refl)
 
 -- a command with the word of a name is one of that name
 pub named : (name : Name) (c : Command) → name_of c ≡ text_of name → IsNamed name c

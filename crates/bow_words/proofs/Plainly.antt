@@ -9,8 +9,9 @@ use Rattle.std.proofs.lemmas.Bool.{cases_eq}
 use Rattle.bow_units.specs.Numbers.{value_of}
 use Rattle.clap.specs.Words.{Text}
 use Rattle.clap.proofs.OnLiterals.{clap_on_literals}
-use Rattle.bow_words.specs.Words.{AreLimit, AreNumber, AreRetry, IsBlockWord, OwnWords, Takes, limit_app, none_app, number_app, texts_of, word_at}
+use Rattle.bow_words.specs.Words.{AreLimit, AreNumber, ArePast, AreRetry, IsBlockWord, OwnWords, Takes, limit_app, none_app, number_app, texts_of, word_at}
 use Rattle.bow_words.specs.Plain.{AskInRange, IsInRange, PlainWordsAsk, own_words}
+use Rattle.bow_words.proofs.Positionals.{IsPlainWord, digit_plain, past_taken}
 use Rattle.bow_words.specs.declared.commands.Command.{Command}
 use Rattle.bow_words.specs.declared.commands.Command.TheVariants as command
 
@@ -93,6 +94,10 @@ begins_digit (x ∷ rest) some digits = (x, rest, refl, grind (arith, digits), g
 digit_first : (n : ℕ) → n < 2 ^ 64 → BeginsDigit (decimal n)
 digit_first n small = begins_digit (decimal n) (decimal_nonempty n small) (digits_decimal digits_model n small)
 
+number_plain : (n : ℕ) → n < 2 ^ 64 → IsPlainWord (decimal n)
+number_plain n small = let first = digit_first n small in
+    subst IsPlainWord (sym first.2) (digit_plain first.0 first.1 first.3)
+
 number_words : (least most n : ℕ) → least ≤ n → n ≤ most → most < 2 ^ 64 → AreNumber least most (decimal n ∷ []) n
 number_words least most n low high small =
     let first = digit_first n (omega (arith, high, small)) in
@@ -105,9 +110,17 @@ limit_words k low high =
     let taken : Takes limit_app (codes "--limit" ∷ decimal k ∷ []) × (word_at limit_app (codes "limit") (codes "--limit" ∷ decimal k ∷ []) ≡ Some (decimal k)) = subst (λ word. Takes limit_app (codes "--limit" ∷ word ∷ []) × (word_at limit_app (codes "limit") (codes "--limit" ∷ word ∷ []) ≡ Some word)) (sym first.2) (limit_taken first.1 first.0 first.3 first.4) in
     (taken.0, (low, high, taken.1))
 
+past_words : (n first count : ℕ) → n ≤ 2 ^ 64 - 1 → first ≤ 2 ^ 32 - 1 → 1 ≤ count → count ≤ 4096
+    → ArePast (decimal n ∷ decimal first ∷ decimal count ∷ []) n first count
+past_words n first count small low some few =
+    let taken = past_taken (decimal n) (decimal first) (decimal count) (number_plain n (omega (arith, small)))
+    (number_plain first (omega (arith, low))) (number_plain count (omega (arith, few))) in
+    (taken.0, (omega arith, small, taken.1), (omega arith, low, taken.2), (some, few, taken.3))
+
 own_words_ask : (c : Command) → IsInRange c → OwnWords (own_words c) c
 own_words_ask (command.Play n) range = number_words 0 (2 ^ 64 - 1) n (omega arith) range (omega arith)
 own_words_ask (command.Drill n) range = number_words 0 (2 ^ 64 - 1) n (omega arith) range (omega arith)
+own_words_ask (command.Past n first count) range = past_words n first count range.0 range.1 range.2 range.3
 own_words_ask (command.Run n) range = number_words 1 8 n range.0 range.1 (omega arith)
 own_words_ask (command.Restore None) range = no_limit
 own_words_ask (command.Restore (Some k)) range = limit_words k range.0 range.1
@@ -140,6 +153,7 @@ plain_words_ask (i ∷ j ∷ k ∷ word ∷ own) image attempts block c size ran
 own_in_range : (own : List Text) (c : Command) → OwnWords own c → IsInRange c
 own_in_range own (command.Play n) asks = asks.1.1
 own_in_range own (command.Drill n) asks = asks.1.1
+own_in_range own (command.Past n first count) asks = (asks.1.1, asks.2.1, asks.3.0, asks.3.1)
 own_in_range own (command.Run n) asks = (asks.1.0, asks.1.1)
 own_in_range own (command.Restore None) asks = tt
 own_in_range own (command.Restore (Some k)) asks = (asks.1.0, asks.1.1)

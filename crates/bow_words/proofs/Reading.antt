@@ -5,7 +5,7 @@ use Rattle.std.specs.declared.alloc.Global.{Global}
 use Rattle.clap.specs.Words.{App, Row, Text, first_of, first_value, rows_of}
 use Rattle.clap.specs.declared.parser.matches.Found.{Found}
 use Rattle.clap.proofs.WalkLemmas.{first_value-rows}
-use Rattle.bow_words.specs.Words.{AreNumber, Asks, SpellsIn, Takes, name_of, number_app, word_at}
+use Rattle.bow_words.specs.Words.{AreNumber, Asks, SpellsIn, Takes, name_of, number_app, past_app, word_at}
 use Rattle.bow_words.specs.declared.commands.Command.{Command}
 use Rattle.bow_words.specs.declared.faults.WordsFault.{WordsFault}
 
@@ -21,6 +21,12 @@ number_read least most app words word (Ok n) same takes is spells =
     subst (λ a. Takes a words × SpellsIn least most (word_at a (codes "number") words) n) same
     (takes, subst (λ w. SpellsIn least most w n) is spells)
 number_read least most app words word (Err fault) same takes is spells = tt
+
+-- one of three numbers, read of the word that clap found under its name
+pub read_under : (name : Text) (least most n : ℕ) (app : App) (words : List Text) (word : Option Text) → app ≡ past_app
+    → word ≡ word_at app name words → SpellsIn least most word n → SpellsIn least most (word_at past_app name words) n
+read_under name least most n app words word same is spells =
+    subst (λ a. SpellsIn least most (word_at a name words) n) same (subst (λ w. SpellsIn least most w n) is spells)
 
 -- the fourth word is the name of the command that is asked for
 pub asked_name : (words : List (String Global)) (word : String Global) (c : Command) → Asks words c

@@ -2,9 +2,9 @@
 use Rattle.std.proofs.Common.{◌≡◌, ◌∙◌, ◌<◌, ◌^◌, ◌-◌, ℕ, Bool, true, false, List, [], ◌∷◌, Option, None, Some, refl, sym, ap, subst, arith, get_or}
 use Rattle.std.proofs.lemmas.Fmt.{decimal_injective}
 use Rattle.clap.specs.Words.{Text}
-use Rattle.bow_words.specs.Words.{AreLimit, AreNumber, AreRetry, AskForOne, OwnWords, SpellsIn, texts_of, truth_text}
+use Rattle.bow_words.specs.Words.{AreLimit, AreNumber, ArePast, AreRetry, AskForOne, OwnWords, SpellsIn, texts_of, truth_text}
 use Rattle.bow_words.specs.declared.names.Name.{Name}
-use Rattle.bow_words.specs.declared.names.Name.TheVariants.{Play, Run, Restore, Check, Forward, Start, Mark, NeedsCheckpoint, NeedsRollback, Abort, Boot, Drill}
+use Rattle.bow_words.specs.declared.names.Name.TheVariants.{Play, Run, Restore, Check, Forward, Start, Mark, NeedsCheckpoint, NeedsRollback, Abort, Boot, Drill, Past}
 use Rattle.bow_words.specs.declared.commands.Command.{Command}
 use Rattle.bow_words.specs.declared.commands.Command.TheVariants as command
 use Rattle.bow_words.proofs.Naming.{IsNamed, kind_of, named, of_kind, spelled}
@@ -71,6 +71,14 @@ same_own own Drill a b x y p q =
     let m : AreNumber 0 (2 ^ 64 - 1) own x.0 = subst (λ c. OwnWords own c) x.1 p in
     let n : AreNumber 0 (2 ^ 64 - 1) own y.0 = subst (λ c. OwnWords own c) y.1 q in
     x.1 ∙ ap command.Drill (spells_one 0 (2 ^ 64 - 1) x.0 y.0 _ (omega arith) m.1 n.1) ∙ sym y.1
+same_own own Past a b x y p q =
+    let m : ArePast own x.0 x.1 x.2 = subst (λ c. OwnWords own c) x.3 p in
+    let n : ArePast own y.0 y.1 y.2 = subst (λ c. OwnWords own c) y.3 q in
+    let number = spells_one 0 (2 ^ 64 - 1) x.0 y.0 _ (omega arith) m.1 n.1 in
+    let first = spells_one 0 (2 ^ 32 - 1) x.1 y.1 _ (omega arith) m.2 n.2 in
+    let count = spells_one 1 4096 x.2 y.2 _ (omega arith) m.3 n.3 in
+    x.3 ∙ ap (λ n. command.Past n x.1 x.2) number ∙ ap (λ f. command.Past y.0 f x.2) first
+    ∙ ap (λ k. command.Past y.0 y.1 k) count ∙ sym y.3
 
 pub ask_for_one : AskForOne
 ask_for_one [] a b x y = absurd x

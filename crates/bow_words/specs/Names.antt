@@ -1,7 +1,7 @@
 -- The names of the commands, as words.
 use Rattle.std.specs.Prelude.{List, ℕ, codes}
 use Rattle.bow_words.specs.declared.names.Name.{Name}
-use Rattle.bow_words.specs.declared.names.Name.TheVariants.{Play, Run, Restore, Check, Forward, Start, Mark, NeedsCheckpoint, NeedsRollback, Abort, Boot, Drill}
+use Rattle.bow_words.specs.declared.names.Name.TheVariants.{Play, Run, Restore, Check, Forward, Start, Mark, NeedsCheckpoint, NeedsRollback, Abort, Boot, Drill, Past}
 
 -- the word that is a name
 abbrev pub text_of : Name → List ℕ
@@ -17,3 +17,4 @@ text_of NeedsRollback = codes "needs-rollback"
 text_of Abort = codes "abort"
 text_of Boot = codes "boot"
 text_of Drill = codes "drill"
+text_of Past = codes "past"

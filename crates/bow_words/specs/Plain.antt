@@ -7,11 +7,12 @@ use Rattle.bow_words.specs.declared.commands.Command.{Command}
 use Rattle.bow_words.specs.declared.commands.Command.TheVariants as command
 use Rattle.bow_words.specs.Words.{Asks, IsBlockWord, name_of, texts_of}
 
--- a command's own words: a number, `--limit` and a number, `--retry`, or none
+-- a command's own words: a number, three numbers, `--limit` and a number, `--retry`, or none
 abbrev pub own_words : Command → List Text
 own_words (command.Play n) = decimal n ∷ []
 own_words (command.Run n) = decimal n ∷ []
 own_words (command.Drill n) = decimal n ∷ []
+own_words (command.Past n first count) = decimal n ∷ decimal first ∷ decimal count ∷ []
 own_words (command.Restore (Some k)) = codes "--limit" ∷ decimal k ∷ []
 own_words (command.Start n) = decimal n ∷ []
 own_words (command.Abort true) = codes "--retry" ∷ []
@@ -21,6 +22,7 @@ own_words command = []
 abbrev pub IsInRange : Command → Type 0
 IsInRange (command.Play n) = n ≤ 2 ^ 64 - 1
 IsInRange (command.Drill n) = n ≤ 2 ^ 64 - 1
+IsInRange (command.Past n first count) = (n ≤ 2 ^ 64 - 1) × (first ≤ 2 ^ 32 - 1) × (1 ≤ count) × (count ≤ 4096)
 IsInRange (command.Run n) = (1 ≤ n) × (n ≤ 8)
 IsInRange (command.Restore (Some k)) = (1 ≤ k) × (k ≤ 2 ^ 32 - 1)
 IsInRange (command.Start n) = n ≤ 2 ^ 31 - 2

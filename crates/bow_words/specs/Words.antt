@@ -30,6 +30,12 @@ none_app = plain_app []
 abbrev pub number_app : App
 number_app = plain_app (record (new_rule (codes "number")) { required = true } ∷ [])
 
+-- three words, which must stand
+abbrev pub past_app : App
+past_app = plain_app (record (new_rule (codes "number")) { required = true }
+    ∷ record (new_rule (codes "first")) { required = true }
+    ∷ record (new_rule (codes "count")) { required = true } ∷ [])
+
 -- `--limit K`, or nothing
 abbrev pub limit_app : App
 limit_app = plain_app (record (new_rule (codes "limit")) { long = Some (codes "limit") } ∷ [])
@@ -59,6 +65,13 @@ abbrev pub AreNumber : ℕ → ℕ → List Text → ℕ → Type 0
 AreNumber least most words n = Takes number_app words
     × SpellsIn least most (word_at number_app (codes "number") words) n
 
+-- the words are the number of a schedule, a first block, and how many blocks
+abbrev pub ArePast : List Text → ℕ → ℕ → ℕ → Type 0
+ArePast words n first count = Takes past_app words
+    × SpellsIn 0 (2 ^ 64 - 1) (word_at past_app (codes "number") words) n
+    × SpellsIn 0 (2 ^ 32 - 1) (word_at past_app (codes "first") words) first
+    × SpellsIn 1 4096 (word_at past_app (codes "count") words) count
+
 -- the words give a limit, or none
 abbrev pub AreLimit : List Text → Option ℕ → Type 0
 AreLimit words None = Takes limit_app words × (word_at limit_app (codes "limit") words ≡ None)
@@ -87,11 +100,13 @@ name_of command.NeedsRollback = codes "needs-rollback"
 name_of (command.Abort retry) = codes "abort"
 name_of command.Boot = codes "boot"
 name_of (command.Drill n) = codes "drill"
+name_of (command.Past n first count) = codes "past"
 
 -- a command's own words
 abbrev pub OwnWords : List Text → Command → Type 0
 OwnWords own (command.Play n) = AreNumber 0 (2 ^ 64 - 1) own n
 OwnWords own (command.Drill n) = AreNumber 0 (2 ^ 64 - 1) own n
+OwnWords own (command.Past n first count) = ArePast own n first count
 OwnWords own (command.Run n) = AreNumber 1 8 own n
 OwnWords own (command.Restore limit) = AreLimit own limit
 OwnWords own (command.Start n) = AreNumber 0 (2 ^ 31 - 2) own n

@@ -1,7 +1,7 @@
 // A command's own words, as `clap` reads them.
 ghost use Rattle.std.specs.Prelude.{◌≡◌, [], true, IfOk, IfErr};
 ghost use Rattle.clap.specs.Words.{Text, app_of, fault_of, first_value, found_of, is_simple, is_simple_and_free};
-ghost use Rattle.bow_words.specs.Words.{limit_app, none_app, number_app, retry_app, texts_of, word_at};
+ghost use Rattle.bow_words.specs.Words.{limit_app, none_app, number_app, past_app, retry_app, texts_of, word_at};
 
 use crate::faults::WordsFault;
 use clap::error::ErrorKind;
@@ -49,6 +49,16 @@ pub(crate) fn of_number<'a>(alloc: Global) -> Result<Command<'a>, AllocError>
     ensures { IfOk result (λ c. app_of c ≡ number_app) }
 {
     of_none(alloc).arg(Arg::new(alloc, "number").required(true))
+}
+
+/// The number of a schedule, a first block, and how many blocks.
+pub(crate) fn of_past<'a>(alloc: Global) -> Result<Command<'a>, AllocError>
+    ensures { IfOk result (λ c. app_of c ≡ past_app) }
+{
+    of_none(alloc)
+        .arg(Arg::new(alloc, "number").required(true))?
+        .arg(Arg::new(alloc, "first").required(true))?
+        .arg(Arg::new(alloc, "count").required(true))
 }
 
 /// `--limit K`, or nothing.

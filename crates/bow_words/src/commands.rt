@@ -6,7 +6,7 @@ ghost use Rattle.bow_words.specs.declared.commands.Command.{Command};
 
 use crate::faults::WordsFault;
 use crate::names::{Name, read_name};
-use crate::own_words::{read_limit, read_none, read_number_in, read_retry};
+use crate::own_words::{read_limit, read_none, read_number_in, read_past, read_retry};
 use std::alloc::Global;
 
 /// What the words ask for.
@@ -36,6 +36,9 @@ pub enum Command {
     Boot,
     /// Make the drill of this number, on a disk of its own.
     Drill(u64),
+    /// Play a script on one thread, by the schedule of this number, beside a reader of the checkpoint: of the blocks
+    /// from this one, so many, from 1 to 4096.
+    Past(u64, u32, u32),
 }
 
 /// Reads the words after the program's name: `IMAGE ATTEMPTS BLOCK COMMAND` and the command's own words. BLOCK is
@@ -45,6 +48,7 @@ pub enum Command {
 /// | COMMAND | Own words |
 /// |---|---|
 /// | `play`, `drill` | a number below 2^64 |
+/// | `past` | a number below 2^64, a first block below 2^32, and a number of blocks from 1 to 4096 |
 /// | `run` | a number from 1 to 8 |
 /// | `restore` | none, or `--limit K` with K from 1 to 4294967295 |
 /// | `start` | a number from 0 to 2147483646 |
@@ -88,6 +92,7 @@ fn read_own(alloc: Global, name: Name, own: &[String]) -> Result<Command, WordsF
         Name::NeedsRollback => bare(alloc, own, Command::NeedsRollback),
         Name::Boot => bare(alloc, own, Command::Boot),
         Name::Drill => { Ok(Command::Drill(read_number_in(alloc, own, 0, 0xffff_ffff_ffff_ffff)?)) }
+        Name::Past => read_past(alloc, own),
     }
 }
 

@@ -18,6 +18,7 @@ pub(crate) enum Name {
     Abort,
     Boot,
     Drill,
+    Past,
 }
 
 /// The name that a word is, and `None` where it is no command's name.
@@ -38,6 +39,7 @@ pub(crate) fn read_name(word: &str) -> Option<Name>
         "abort" => Some(Name::Abort),
         "boot" => Some(Name::Boot),
         "drill" => Some(Name::Drill),
+        "past" => Some(Name::Past),
         _ => None,
     }
 }

@@ -1,8 +1,10 @@
-// A command's own words: none, a number, a limit, or a wish.
-ghost use Rattle.std.specs.Prelude.{◌≡◌, ◌<◌, ◌≤◌, ◌^◌, ℕ, Bool, Option, IfOk, IfErr, option_map, Some};
-ghost use Rattle.bow_words.specs.Words.{AreLimit, AreNumber, AreRetry, SpellsIn, Takes, none_app, texts_of, truth_text};
+// A command's own words: none, a number, three numbers, a limit, or a wish.
+ghost use Rattle.std.specs.Prelude.{◌≡◌, ◌<◌, ◌≤◌, ◌^◌, ℕ, Bool, Option, IfOk, IfErr, option_map, Some, codes};
+ghost use Rattle.bow_words.specs.Words.{AreLimit, AreNumber, ArePast, AreRetry, OwnWords, SpellsIn, Takes};
+ghost use Rattle.bow_words.specs.Words.{name_of, none_app, texts_of, truth_text};
 
-use crate::clap_words::{of_limit, of_none, of_number, of_retry, parse};
+use crate::clap_words::{of_limit, of_none, of_number, of_past, of_retry, parse};
+use crate::commands::Command;
 use crate::faults::WordsFault;
 use bow_units::read_number;
 use std::alloc::Global;
@@ -34,6 +36,23 @@ pub(crate) fn read_number_in(
         Err(_) => return Err(WordsFault::NoMemory),
     };
     number_in(matches.get_str("number"), least, most)
+}
+
+/// The number of a schedule, a first block, and how many blocks.
+#[tactic(auto, using(crate::proofs::Simple::past_simple))]
+pub(crate) fn read_past(alloc: Global, words: &[String]) -> Result<Command, WordsFault>
+    ensures ok { IfOk result (λ c. (name_of c ≡ codes "past") × OwnWords (texts_of words.now) c) }
+    ensures refused { IfErr result (λ e. e ≡ WordsFault.BadWords → (n first count : ℕ)
+        → n < 2 ^ 64 → first < 2 ^ 64 → count < 2 ^ 64 → ArePast (texts_of words.now) n first count → ⊥) }
+{
+    let matches = match of_past(alloc) {
+        Ok(command) => parse(command, words)?,
+        Err(_) => return Err(WordsFault::NoMemory),
+    };
+    let number = number_in(matches.get_str("number"), 0, 0xffff_ffff_ffff_ffff)?;
+    let first = number_in(matches.get_str("first"), 0, 0xffff_ffff)?;
+    let count = number_in(matches.get_str("count"), 1, 4096)?;
+    Ok(Command::Past(number, first as u32, count as u32))
 }
 
 /// A limit, or none.
