@@ -33,7 +33,7 @@ use Rattle.bow_receipts.specs.declared.service.Service.{Service}
 use Rattle.bow_receipts.specs.Asking.{Asked, AsksAtLeast, FitsSize, asked_of, blank, given_of, request_of}
 use Rattle.bow_receipts.specs.Copies.{HasRoomFor}
 use Rattle.bow_receipts.specs.Hands.{IsHeld, IsInHand, hand_at, ticket_in, tickets_of}
-use Rattle.bow_receipts.specs.Served.{IsKept, IsReadBy, IsSeated, IsServed, Serves, answered_of, count_of, held_of, view_under}
+use Rattle.bow_receipts.specs.Served.{IsKept, IsFrontOf, IsSeated, IsServed, Serves, answered_of, count_of, held_of, view_under}
 use Rattle.bow_receipts.proofs.Lists.{below_one, filter_more, filter_none, filter_other, front_at, index_set_here, index_set_there, more_at, over_more, set_length, speaks_for_all}
 use Rattle.bow_receipts.proofs.OpAsks.{blank_twice, first_blank, fits_whole, for_blank, room_blank}
 use Rattle.bow_receipts.proofs.Serving.{asked_few, asked_lane, asked_next, asks_now, memory, seat, sound, st}
@@ -166,7 +166,7 @@ module _ {D R : Type 0} (stated : D → Option Geometry) (content : D → Option
               refl (ap (λ (m : Memory). taken_in m ticket op) (sym (old.session).memory)) (ap (λ n. n + 1) (sym (old.session).admitted)) (sym (append-nil s.journal.items)) (sym (append-nil (k.served).moments));
           tickets = λ l. ap (λ (z : Session). z.hand l) now ∙ tickets_now l;
           number = λ l. ap (λ (z : Session). z.number l) now ∙ old.number l;
-          bytes = λ i x at. subst (λ (z : Session). IsReadBy x.ask (z.kept x.lane x.number) x.answer.bytes) (sym now) (old.bytes i x at);
+          bytes = λ i x at. subst (λ (z : Session). IsFrontOf x.answer.bytes (z.kept x.lane x.number)) (sym now) (old.bytes i x at);
         }
           where
             tickets_now : (l : ℕ) → put state.hand lane (Some ticket) l ≡ tickets_of (slice_set s.hands.items lane (Some hand)) l
@@ -238,6 +238,7 @@ module _ {D R : Type 0} (stated : D → Option Geometry) (content : D → Option
         numbers = (k.kept).numbers;
         fit = fit_now;
         within = within_now;
+        blocks = (k.kept).blocks;
         entries = (k.kept).entries;
         of_journal = (k.kept).of_journal;
         count = (k.kept).count;
@@ -300,6 +301,7 @@ module _ {D R : Type 0} (stated : D → Option Geometry) (content : D → Option
           numbers = (k.kept).numbers;
           fit = (k.kept).fit;
           within = (k.kept).within;
+          blocks = (k.kept).blocks;
           entries = (k.kept).entries;
           of_journal = (k.kept).of_journal;
           count = (k.kept).count;

@@ -62,6 +62,7 @@ module _ {D R : Type 0} (stated : D → Option Geometry) (content : D → Option
     numbers = λ lane n x at. clash None x refl at;
     fit = λ lane n op at. clash None op refl at;
     within = λ lane. omega arith;
+    blocks = λ i x at. clash None x refl at;
     entries = refl;
     of_journal = tt;
     count = sym (zero_over (answered_of []) lanes (λ l. refl));

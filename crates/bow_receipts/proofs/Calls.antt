@@ -45,6 +45,39 @@ calls_stand journal calls h i x at =
     let place : x.answer.place ≡ r.0 = let e = r.1 in omega arith in
     subst (λ (k : ℕ). slice_get journal k ≡ Some (Answered x.lane x.number x.answer.outcome)) (sym place) r.2
 
+-- the call of an answer
+pub record CallOf (calls : List (Entry Op Answer)) (lane n : ℕ) (outcome : Outcome) : Type 0 where
+  pub at : ℕ
+  pub call : Entry Op Answer
+  pub is : slice_get calls at ≡ Some call
+  pub lane_is : call.lane ≡ lane
+  pub number_is : call.number ≡ n
+  pub outcome_is : call.answer.outcome ≡ outcome
+
+later : (x : Entry Op Answer) (calls : List (Entry Op Answer)) (lane n : ℕ) (outcome : Outcome) → CallOf calls lane n outcome → CallOf (x ∷ calls) lane n outcome
+later x calls lane n outcome c = record { at = suc c.at; call = c.call; is = c.is; lane_is = c.lane_is; number_is = c.number_is; outcome_is = c.outcome_is }
+
+same_item : (a b : Item) → Some a ≡ Some b → a ≡ b
+same_item a b e = cc
+
+-- each answer of a journal has its call
+pub answer_of : (before : ℕ) (journal : List Item) (calls : List (Entry Op Answer)) → AreCallsFrom before journal calls
+    → (k lane n : ℕ) (outcome : Outcome) → slice_get journal k ≡ Some (Answered lane n outcome) → CallOf calls lane n outcome
+answer_of before [] [] h k lane n outcome at = absurd (none-some (Answered lane n outcome) at)
+answer_of before [] (x ∷ calls) h k lane n outcome at = absurd h
+answer_of before (Wrote l m b ∷ items) calls h zero lane n outcome at = absurd (let e = same_item (Wrote l m b) (Answered lane n outcome) at in grind (arith, e))
+answer_of before (Wrote l m b ∷ items) calls h (suc k) lane n outcome at = answer_of (suc before) items calls h k lane n outcome at
+answer_of before (Got l m b ∷ items) calls h zero lane n outcome at = absurd (let e = same_item (Got l m b) (Answered lane n outcome) at in grind (arith, e))
+answer_of before (Got l m b ∷ items) calls h (suc k) lane n outcome at = answer_of (suc before) items calls h k lane n outcome at
+answer_of before (Answered l m o ∷ items) [] h k lane n outcome at = absurd h
+answer_of before (Answered l m o ∷ items) (x ∷ calls) h zero lane n outcome at =
+    let e = same_item (Answered l m o) (Answered lane n outcome) at in
+    let lanes : l ≡ lane = cc e in
+    let numbers : m ≡ n = cc e in
+    let outcomes : o ≡ outcome = cc e in
+    record { at = 0; call = x; is = refl; lane_is = h.0 ∙ lanes; number_is = h.1 ∙ numbers; outcome_is = h.2 ∙ outcomes }
+answer_of before (Answered l m o ∷ items) (x ∷ calls) h (suc k) lane n outcome at = later x calls lane n outcome (answer_of (suc before) items calls h.4 k lane n outcome at)
+
 rise_from : (before low : ℕ) (journal : List Item) (calls : List (Entry Op Answer)) → AreCallsFrom before journal calls
     → low ≤ before → PlacesRise low calls
 rise_from before low [] [] h less = tt

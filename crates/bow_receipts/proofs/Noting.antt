@@ -1,5 +1,5 @@
 -- What lies under the lock once a step is noted.
-use Rattle.std.proofs.Common.{◌≡◌, ◌≢◌, ℕ, suc, ◌+◌, ◌<◌, ◌≤◌, ◌++◌, ◌==◌, not, List, [], ◌∷◌, length, map, Option, Some, None, arith, refl, sym, ap, ◌∙◌, subst, inl, inr, length-append, eq-eqb, ne_eqb}
+use Rattle.std.proofs.Common.{◌≡◌, ◌≢◌, ℕ, suc, ◌+◌, ◌*◌, ◌<◌, ◌≤◌, ◌++◌, ◌==◌, not, List, [], ◌∷◌, length, map, Option, Some, None, arith, refl, sym, ap, ◌∙◌, subst, inl, inr, length-append, eq-eqb, ne_eqb}
 use Rattle.std.specs.Prelude.{slice_get, slice_set, vec_capacity}
 use Rattle.std.proofs.lemmas.Bool.{cases_eq, eqb-true}
 use Rattle.std.proofs.lemmas.List.{append-nil}
@@ -11,7 +11,7 @@ use Rattle.bow_disk.specs.Disk.{Content, IsCrash, IsShaped}
 use Rattle.bow_flat.specs.Flat.{put}
 use Rattle.bow_queue.specs.declared.tickets.Ticket.{Ticket}
 use Rattle.bow_machine.specs.Requests.{Request}
-use Rattle.bow_machine.specs.Steps.{Told, payload_of}
+use Rattle.bow_machine.specs.Steps.{Told, extent_of, payload_of}
 use Rattle.bow_machine.specs.Steps.{Idle as ToldIdle, Moved as ToldMoved, Wrote as ToldWrote, Got as ToldGot, Answered as ToldAnswered}
 use Rattle.bow_machine.proofs.MappedWrites.{put_here, put_there}
 use Rattle.bow_core.specs.declared.turns.Step.{Step}
@@ -38,13 +38,13 @@ use Rattle.bow_receipts.specs.declared.hands.Hand.{Hand}
 use Rattle.bow_receipts.specs.declared.service.Service.{Service}
 use Rattle.bow_receipts.specs.Asking.{Asked, AsksAtLeast, asked_of, blank, given_of}
 use Rattle.bow_receipts.specs.Calls.{AreCalls}
-use Rattle.bow_receipts.specs.Copies.{read_by}
+use Rattle.bow_receipts.specs.Copies.{blocks_read, read_by}
 use Rattle.bow_receipts.specs.Hands.{IsInHand, hand_at, lane_with, ticket_in, tickets_of}
 use Rattle.bow_receipts.specs.Noted.{IsAnswered, IsNoted, IsStill, IsTurnOf, answer_to, call_to}
-use Rattle.bow_receipts.specs.Served.{IsKept, IsReadBy, IsSeated, IsServed, Serves, answered_of, count_of, entry_of, held_of, view_under}
+use Rattle.bow_receipts.specs.Served.{IsKept, HaveBlocksRead, IsFrontOf, IsSeated, IsServed, Serves, answered_of, count_of, entry_of, held_of, view_under}
 use Rattle.bow_receipts.proofs.Calls.{answered_more, got_more, wrote_more}
 use Rattle.bow_receipts.proofs.Lists.{Below, at_within, filter_at, in_filter, in_single, below_next, below_other, filter_in, filter_more, filter_other, filter_out, index_set_here, index_set_there, map_more, more_at, over_equal, over_more, set_length}
-use Rattle.bow_receipts.proofs.OpAsks.{for_ask, for_bytes}
+use Rattle.bow_receipts.proofs.OpAsks.{for_ask, for_blocks, read_front}
 use Rattle.bow_receipts.proofs.Serving.{HandOf, IsOfWaiting, actor_for, after_is, answered_item, asked_lane, asks_now, fits_ask, got_item, hand_of, item_is, lanes_are, may, memory, same_lane, seat, sizes_are, sound, st, waits, wrote_item}
 use Rattle.bow_receipts.proofs.Turns.{cuts_on, did_step, fine_on, push, session_on}
 
@@ -103,7 +103,7 @@ module _ {D R : Type 0} (stated : D → Option Geometry) (content : D → Option
       → ((plan : Plan) (asks : AsksAtLeast g asked plan) → listed (item_of plan (state plan asks) (told_of tells)) ≡ extra)
       → ((plan : Plan) (asks : AsksAtLeast g asked plan) (lane : ℕ) → (after plan asks).hand lane ≡ tickets_of hands lane)
       → ((plan : Plan) (asks : AsksAtLeast g asked plan) (lane : ℕ) → (after plan asks).number lane ≡ answered_of next lane)
-      → ((plan : Plan) (asks : AsksAtLeast g asked plan) (i : ℕ) (x : Entry Op Answer) → slice_get next i ≡ Some x → IsReadBy x.ask ((after plan asks).kept x.lane x.number) x.answer.bytes)
+      → ((plan : Plan) (asks : AsksAtLeast g asked plan) (i : ℕ) (x : Entry Op Answer) → slice_get next i ≡ Some x → IsFrontOf x.answer.bytes ((after plan asks).kept x.lane x.number))
       → IsServed content moment left faults g lanes k.first core next left_jobs hands journal
   served_on next left_jobs hands extra journal same goes extra_is tickets numbers bytes =
       let old_asks : (plan : Plan) → AsksAtLeast g (asked_of lanes next left_jobs) plan → AsksAtLeast g asked plan = λ plan asks. same_asks g asked (asked_of lanes next left_jobs) plan refl same asks in
@@ -142,7 +142,7 @@ module _ {D R : Type 0} (stated : D → Option Geometry) (content : D → Option
                 (ap (λ (xs : List Item). (k.served).moments ++ map (λ x. core.calls) xs) (sym told) ∙ ap (λ xs. (k.served).moments ++ xs) (listed_more (item_in plan (state plan asks) (Steps (actor_for s.hands.items own of) step.reply)) core.calls));
             tickets = λ lane. ap (λ (z : Session). z.hand lane) now ∙ tickets plan asks lane;
             number = λ lane. ap (λ (z : Session). z.number lane) now ∙ numbers plan asks lane;
-            bytes = λ i x at. subst (λ (z : Session). IsReadBy x.ask (z.kept x.lane x.number) x.answer.bytes) (sym now) (bytes plan asks i x at);
+            bytes = λ i x at. subst (λ (z : Session). IsFrontOf x.answer.bytes (z.kept x.lane x.number)) (sym now) (bytes plan asks i x at);
           }
 
   module _ (new : Service D R) where
@@ -155,7 +155,7 @@ module _ {D R : Type 0} (stated : D → Option Geometry) (content : D → Option
       pub extra_is : (plan : Plan) (asks : AsksAtLeast g asked plan) → listed (item_of plan (state plan asks) (told_of tells)) ≡ extra
       pub tickets : (plan : Plan) (asks : AsksAtLeast g asked plan) (lane : ℕ) → (after plan asks).hand lane ≡ tickets_of new.hands.items lane
       pub numbers : (plan : Plan) (asks : AsksAtLeast g asked plan) (lane : ℕ) → (after plan asks).number lane ≡ answered_of new.server.view.given lane
-      pub bytes : (plan : Plan) (asks : AsksAtLeast g asked plan) (i : ℕ) (x : Entry Op Answer) → slice_get new.server.view.given i ≡ Some x → IsReadBy x.ask ((after plan asks).kept x.lane x.number) x.answer.bytes
+      pub bytes : (plan : Plan) (asks : AsksAtLeast g asked plan) (i : ℕ) (x : Entry Op Answer) → slice_get new.server.view.given i ≡ Some x → IsFrontOf x.answer.bytes ((after plan asks).kept x.lane x.number)
       pub kept : IsKept g lanes allowed new.server.view new.hands.items new.journal.items new.calls.items
       pub journal_room : vec_capacity new.journal ≡ vec_capacity s.journal
       pub calls_room : vec_capacity new.calls ≡ vec_capacity s.calls
@@ -198,7 +198,7 @@ module _ {D R : Type 0} (stated : D → Option Geometry) (content : D → Option
           extra_is = extra_is;
           tickets = λ plan asks lane. ap (λ (f : ℕ → Option Ticket). f lane) (hand plan (base plan asks)) ∙ (seat stated content moment left faults g lanes allowed table begins s k plan asks).tickets lane ∙ ap (λ (h : List (Option Hand)). tickets_of h lane) (sym n.hands);
           numbers = λ plan asks lane. ap (λ (f : ℕ → ℕ). f lane) (number plan (base plan asks)) ∙ (seat stated content moment left faults g lanes allowed table begins s k plan asks).number lane ∙ ap (λ (v : SeatView Op Answer). answered_of v.given lane) (sym view);
-          bytes = λ plan asks i x at. subst (λ (f : ℕ → ℕ → List ℕ). IsReadBy x.ask (f x.lane x.number) x.answer.bytes) (sym (kept plan (base plan asks)))
+          bytes = λ plan asks i x at. subst (λ (f : ℕ → ℕ → List ℕ). IsFrontOf x.answer.bytes (f x.lane x.number)) (sym (kept plan (base plan asks)))
               ((seat stated content moment left faults g lanes allowed table begins s k plan asks).bytes i x (ap (λ (v : SeatView Op Answer). slice_get v.given i) (sym view) ∙ at));
           kept = subst (λ v. IsKept g lanes allowed v new.hands.items new.journal.items new.calls.items) (sym view) (
               subst (λ h. IsKept g lanes allowed s.server.view h new.journal.items new.calls.items) (sym n.hands) (
@@ -212,6 +212,7 @@ module _ {D R : Type 0} (stated : D → Option Geometry) (content : D → Option
                 numbers = (k.kept).numbers;
                 fit = (k.kept).fit;
                 within = (k.kept).within;
+                blocks = (k.kept).blocks;
                 entries = (k.kept).entries;
                 of_journal = calls;
                 count = (k.kept).count;
@@ -222,6 +223,7 @@ module _ {D R : Type 0} (stated : D → Option Geometry) (content : D → Option
 
     -- a step that answers the request in hand of a caller
     module _ (t : Ticket) (op : Op) (outcome : Outcome) (told : told_of tells ≡ ToldAnswered t op outcome) (r : Request) (h : HandOf g given jobs s.hands.items t r) (op_is : r.op ≡ op)
+        (few : blocks_read op outcome ≤ (extent_of op).count)
         (n : IsAnswered (record s { core = core }) t h.hand op outcome new) where
       abbrev lane : ℕ
       lane = lane_with s.hands.items t
@@ -331,11 +333,11 @@ module _ {D R : Type 0} (stated : D → Option Geometry) (content : D → Option
           | inr apart ↦ ap (λ (f : ℕ → List ℕ). f x.number) (put_there base.kept lane (put (base.kept lane) (base.number lane) (payload_of op)) x.lane apart)
         ]
 
-        bytes_now : (i : ℕ) (x : Entry Op Answer) → slice_get (given ++ last ∷ []) i ≡ Some x → IsReadBy x.ask ((after plan asks).kept x.lane x.number) x.answer.bytes
-        bytes_now i x at = subst (λ (z : Session). IsReadBy x.ask (z.kept x.lane x.number) x.answer.bytes) (sym now_is) (elim (more_at given last x i at) [
-          | inl before ↦ subst (λ b. IsReadBy x.ask b x.answer.bytes) (sym (kept_other i x before)) (old.bytes i x before)
-          | inr new_one ↦ subst (λ (y : Entry Op Answer). IsReadBy y.ask ((answered_in base lane op).kept y.lane y.number) y.answer.bytes) (sym new_one.1)
-              (subst (λ b. IsReadBy (h.held_is).ask b (read_by op)) (sym kept_last) (for_bytes g (h.held_is).ask op for_op))
+        bytes_now : (i : ℕ) (x : Entry Op Answer) → slice_get (given ++ last ∷ []) i ≡ Some x → IsFrontOf x.answer.bytes ((after plan asks).kept x.lane x.number)
+        bytes_now i x at = subst (λ (z : Session). IsFrontOf x.answer.bytes (z.kept x.lane x.number)) (sym now_is) (elim (more_at given last x i at) [
+          | inl before ↦ subst (IsFrontOf x.answer.bytes) (sym (kept_other i x before)) (old.bytes i x before)
+          | inr new_one ↦ subst (λ (y : Entry Op Answer). IsFrontOf y.answer.bytes ((answered_in base lane op).kept y.lane y.number)) (sym new_one.1)
+              (subst (IsFrontOf (read_by core.geometry.block_size op outcome)) (sym kept_last) (read_front core.geometry.block_size op outcome))
         ])
 
       hands_now : (l : ℕ) → IsInHand l (answered_of (given ++ last ∷ []) l) (hand_at (slice_set s.hands.items lane None) l) (held_of l (others lane jobs))
@@ -363,6 +365,14 @@ module _ {D R : Type 0} (stated : D → Option Geometry) (content : D → Option
         | inr apart ↦ (k.kept).numbers l m x (subst (λ (xs : List (Entry Op Answer)). slice_get xs m ≡ Some x) (given_there l apart) at)
       ]
 
+      blocks_now : HaveBlocksRead g.block_size (given ++ last ∷ [])
+      blocks_now i x at = elim (more_at given last x i at) [
+        | inl before ↦ (k.kept).blocks i x before
+        | inr new_one ↦ subst (λ (y : Entry Op Answer). length y.answer.bytes ≡ blocks_read y.ask y.answer.outcome * g.block_size) (sym new_one.1)
+            (ap (λ (z : Geometry). length (read_by z.block_size op outcome)) (step.geometry ∙ k.sizes)
+            ∙ for_blocks g (h.held_is).ask op outcome (fits_ask stated content moment left faults g lanes allowed table begins s k own tells core step of t r h) for_op few)
+      ]
+
       entry_now : entry_of (call_to (record s { core = core }) h.hand op outcome) ≡ last
       entry_now =
           ap (λ x. entry x (h.hand).job.number (blank op) reply) (h.held_is).lane_is ∙ ap (λ x. entry lane x (blank op) reply) (h.held_is).number_is
@@ -382,6 +392,7 @@ module _ {D R : Type 0} (stated : D → Option Geometry) (content : D → Option
         numbers = numbered_now;
         fit = λ l m o at. (k.kept).fit l m o (ap (λ (xs : List Op). slice_get xs m) (sym (same_lanes l)) ∙ at);
         within = λ l. (let e = ap length (same_lanes l) in let w = (k.kept).within l in omega (arith, e, w));
+        blocks = blocks_now;
         entries = ap (λ (xs : List (Entry Op Answer)). xs ++ last ∷ []) (k.kept).entries ∙ ap (λ y. map entry_of s.calls.items ++ y ∷ []) (sym entry_now)
             ∙ sym (map_more entry_of s.calls.items (call_to (record s { core = core }) h.hand op outcome)) ∙ ap (map entry_of) (sym n.calls);
         of_journal = subst (λ (xs : List Item). AreCalls xs (given ++ last ∷ [])) (sym (n.journal ∙ ap (λ i. s.journal.items ++ i ∷ []) item_now)) (answered_more 0 s.journal.items given last (k.kept).of_journal (omega arith));
@@ -434,4 +445,4 @@ module _ {D R : Type 0} (stated : D → Option Geometry) (content : D → Option
             (subst (λ (xs : List Item). AreCalls xs s.server.view.given) (sym goes) (got_more 0 s.journal.items s.server.view.given _ _ _ (k.kept).of_journal)))
         by (Answered t op outcome) is w noted =
             let h = hand_of stated content moment left faults g lanes allowed table begins s k _ (asks_now stated content moment left faults g lanes allowed table begins s k) t w.0 w.1 in
-            serves_on _ (answered_goes t op outcome (ap told_of is) w.0 h w.2 (noted h.hand h.here))
+            serves_on _ (answered_goes t op outcome (ap told_of is) w.0 h w.2 w.3 (noted h.hand h.here))

@@ -1,5 +1,5 @@
 -- The device makes a step: what it told is of a caller, with room for it.
-use Rattle.std.proofs.Common.{◌≡◌, ℕ, zero, suc, ◌+◌, ◌*◌, ◌-◌, ◌^◌, ◌<◌, ◌≤◌, ◌++◌, ◌==◌, List, [], ◌∷◌, length, map, Option, Some, None, arith, refl, sym, ap, ◌∙◌, subst, inl, inr, length-append}
+use Rattle.std.proofs.Common.{◌≡◌, ℕ, zero, suc, ◌+◌, ◌*◌, ◌-◌, ◌^◌, ◌<◌, ◌≤◌, ◌++◌, ◌==◌, Bool, true, false, cond, List, [], ◌∷◌, length, map, Option, Some, None, arith, refl, sym, ap, ◌∙◌, subst, inl, inr, length-append}
 use Rattle.std.specs.Prelude.{slice_get}
 use Rattle.std.specs.Option.{option_map}
 use Rattle.std.proofs.lemmas.Bool.{cases_lt}
@@ -11,9 +11,12 @@ use Rattle.bow_units.specs.declared.sizes.Geometry.{Geometry}
 use Rattle.bow_units.specs.declared.requests.Op.{Op}
 use Rattle.bow_units.specs.declared.requests.Op.TheVariants as ops
 use Rattle.bow_units.specs.declared.requests.Outcome.{Outcome}
+use Rattle.bow_units.specs.declared.requests.Outcome.TheVariants as outcomes
+use Rattle.bow_units.specs.declared.sizes.Extent.{Extent}
 use Rattle.bow_disk.specs.Disk.{Content}
 use Rattle.bow_chain.specs.Contents.{Contents}
 use Rattle.bow_flat.specs.Flat.{Event}
+use Rattle.bow_queue.specs.Extents.{is_on_device}
 use Rattle.bow_queue.specs.declared.tickets.Ticket.{Ticket}
 use Rattle.bow_machine.specs.Memory.{Memory}
 use Rattle.bow_machine.specs.MemoryIsSound.{MemoryIsSound}
@@ -22,7 +25,7 @@ use Rattle.bow_machine.specs.Requests.{Request, refusal, request_of as waiting_o
 use Rattle.bow_machine.specs.Steps.{Told, call_of, extent_of}
 use Rattle.bow_machine.specs.Steps.{Idle as ToldIdle, Moved as ToldMoved, Wrote as ToldWrote, Got as ToldGot, Answered as ToldAnswered}
 use Rattle.bow_machine.specs.Tasks.{task_of}
-use Rattle.bow_machine.specs.Told.{ToldRow}
+use Rattle.bow_machine.specs.Told.{AnswerRow, ToldRow}
 use Rattle.bow_machine.proofs.MappedTests.{write_inside, read_inside}
 use Rattle.bow_machine.proofs.SoundTold.{steps_tell_so}
 use Rattle.bow_core.specs.declared.turns.Step.{Step}
@@ -55,7 +58,7 @@ use Rattle.bow_receipts.specs.declared.asks.Answer.{Answer}
 use Rattle.bow_receipts.specs.declared.hands.Hand.{Hand}
 use Rattle.bow_receipts.specs.declared.service.Service.{Service}
 use Rattle.bow_receipts.specs.Asking.{Asked, AsksAtLeast, FitsSize, asked_of, given_of, plan_of, request_of}
-use Rattle.bow_receipts.specs.Copies.{HasRoomFor}
+use Rattle.bow_receipts.specs.Copies.{HasRoomFor, blocks_read}
 use Rattle.bow_receipts.specs.Hands.{IsHeld, IsInHand, hand_at, lane_with, ticket_in, tickets_of}
 use Rattle.bow_receipts.specs.Noted.{IsAnswerable, IsNotable, IsOfHand, IsTurnOf}
 use Rattle.bow_receipts.specs.Served.{IsSeated, Serves, answered_of, count_of, entry_of, held_of, view_under}
@@ -68,7 +71,26 @@ IsOfWaiting g m ToldIdle = Unit {0}
 IsOfWaiting g m ToldMoved = Unit {0}
 IsOfWaiting g m (ToldWrote t i) = (r : Request) × (waiting_of t m.requests ≡ Some r) × ((extent_of r.op).first + i < g.blocks)
 IsOfWaiting g m (ToldGot t i) = (r : Request) × (waiting_of t m.requests ≡ Some r) × ((extent_of r.op).first + i < g.blocks)
-IsOfWaiting g m (ToldAnswered t op outcome) = (r : Request) × (waiting_of t m.requests ≡ Some r) × (r.op ≡ op)
+IsOfWaiting g m (ToldAnswered t op outcome) = (r : Request) × (waiting_of t m.requests ≡ Some r) × (r.op ≡ op) × (blocks_read op outcome ≤ (extent_of op).count)
+
+-- no more blocks were read than the request has
+refused_read : (g : Geometry) (e : Extent) (p : List ℕ) (outcome : Outcome) (b : Bool) → cond {A = Option Outcome} b None (Some outcomes.OutOfRange) ≡ Some outcome → blocks_read (ops.Read e p) outcome ≤ e.count
+refused_read g e p outcome true is = absurd (grind (arith, is))
+refused_read g e p outcome false is = subst (λ o. blocks_read (ops.Read e p) o ≤ e.count) (let same : outcomes.OutOfRange ≡ outcome = cc is in same) (omega arith)
+
+few_read : (g : Geometry) (m : Memory) (r : Request) (op : Op) (outcome : Outcome) (events : List Event) → r.op ≡ op → AnswerRow g m r op outcome events → blocks_read op outcome ≤ (extent_of op).count
+few_read g m r (ops.Read e p) outcome events is row = elim row [
+  | inl refused ↦ refused_read g e p outcome (is_on_device g.blocks e) refused.0
+  | inr served ↦ elim served.1 [
+    | inl all ↦ subst (λ o. blocks_read (ops.Read e p) o ≤ e.count) (sym all.0) (omega arith)
+    | inr fault ↦ subst (λ o. blocks_read (ops.Read e p) o ≤ e.count) (sym fault.0) (let less = fault.1 in omega (arith, less))
+  ]
+]
+few_read g m r (ops.Write e p) outcome events is row = omega arith
+few_read g m r (ops.Discard e) outcome events is row = omega arith
+few_read g m r ops.Flush outcome events is row = omega arith
+few_read g m r ops.Prepare outcome events is row = omega arith
+few_read g m r ops.Commit outcome events is row = omega arith
 
 row_waits : (g : Geometry) (now : Contents) (m : Memory) (told : Told) (events : List Event) (after : List Request) → ToldRow g now m told events after → IsOfWaiting g m told
 row_waits g now m ToldIdle events after row = tt
@@ -83,7 +105,7 @@ row_waits g now m (ToldGot t i) events after row =
     let inside = read_inside g m.phase w.extent w.payload (subst (λ o. refusal g m.phase o ≡ None) w.op w.passed) in
     let first : (extent_of (row.0).op).first ≡ (w.extent).first = ap (λ o. (extent_of o).first) w.op in
     (row.0, row.1, omega (arith, inside, first, w.left))
-row_waits g now m (ToldAnswered t op outcome) events after row = (row.0, row.1, (row.2).0)
+row_waits g now m (ToldAnswered t op outcome) events after row = (row.0, row.1, (row.2).0, few_read g m row.0 op outcome events (row.2).0 (row.2).1)
 
 -- the actor of a turn
 abbrev pub actor_for : (hands : List (Option Hand)) (own : Turn) → IsTurnOf hands own → Actor

@@ -57,7 +57,11 @@ module _ {D R : Type 0} where
 
   -- the answer that is given, and recorded
   abbrev pub answer_to : Service D R → Op → Outcome → Answer
-  answer_to s op outcome = record { place = length s.journal.items; outcome = outcome; bytes = read_by op }
+  answer_to s op outcome = record {
+    place = length s.journal.items;
+    outcome = outcome;
+    bytes = read_by s.core.geometry.block_size op outcome;
+  }
 
   abbrev pub call_to : Service D R → Hand → Op → Outcome → Call
   call_to s h op outcome = record {

@@ -1,7 +1,6 @@
 -- What lies under the lock, and when it is the history of its callers.
-use Rattle.std.specs.Prelude.{◌≡◌, ℕ, ◌+◌, ◌*◌, ◌-◌, ◌^◌, ◌<◌, ◌≤◌, List, [], ◌∷◌, length, map, slice_get, Option, Some, filter, ◌==◌, vec_capacity}
+use Rattle.std.specs.Prelude.{◌≡◌, ℕ, ◌+◌, ◌*◌, ◌-◌, ◌^◌, ◌<◌, ◌≤◌, List, [], ◌∷◌, length, map, slice_get, take, Option, Some, filter, ◌==◌, vec_capacity}
 use Rattle.bow_units.specs.declared.requests.Op.{Op}
-use Rattle.bow_units.specs.declared.requests.Op.TheVariants as ops
 use Rattle.bow_units.specs.declared.sizes.Geometry.{Geometry}
 use Rattle.bow_disk.specs.Disk.{Content}
 use Rattle.bow_core.specs.Views.{View}
@@ -28,6 +27,7 @@ use Rattle.bow_receipts.specs.declared.hands.Hand.{Hand}
 use Rattle.bow_receipts.specs.declared.service.Service.{Service}
 use Rattle.bow_receipts.specs.Asking.{Asked, AsksAtLeast, FitsSize, asked_of, blank, given_of, request_of}
 use Rattle.bow_receipts.specs.Calls.{AreCalls}
+use Rattle.bow_receipts.specs.Copies.{blocks_read}
 use Rattle.bow_receipts.specs.Hands.{IsInHand, hand_at, tickets_of}
 
 -- a call, as the tags have it
@@ -46,10 +46,14 @@ answered_of given lane = length (given_of lane given)
 abbrev pub count_of : Asked → ℕ → ℕ
 count_of asked lane = length (asked.of lane)
 
--- what a read has read, and nothing of another request
-abbrev pub IsReadBy : Op → List ℕ → List ℕ → Type 0
-IsReadBy (ops.Read e payload) kept bytes = kept ≡ bytes
-IsReadBy op kept bytes = Unit {0}
+-- the bytes are the first ones of a buffer
+abbrev pub IsFrontOf : List ℕ → List ℕ → Type 0
+IsFrontOf bytes buffer = take (length bytes) buffer ≡ bytes
+
+-- each answer has as many bytes as the blocks that were read have, which are none but of a read
+abbrev pub HaveBlocksRead : ℕ → List (Entry Op Answer) → Type 0
+HaveBlocksRead size given = (i : ℕ) (x : Entry Op Answer) → slice_get given i ≡ Some x
+    → length x.answer.bytes ≡ blocks_read x.ask x.answer.outcome * size
 
 -- the device and what was done, as the theory of histories has it, under a plan
 abbrev pub view_under : {D : Type 0} → (D → Option Content) → (D → ℕ) → View D → View D → List Turned → List Item
@@ -69,7 +73,7 @@ pub record IsSeated (v : promised.View) (given : List (Entry Op Answer)) (hands 
   pub tickets : (lane : ℕ) → (state_of v).hand lane ≡ tickets_of hands lane
   pub number : (lane : ℕ) → (state_of v).number lane ≡ answered_of given lane
   pub bytes : (i : ℕ) (x : Entry Op Answer) → slice_get given i ≡ Some x
-      → IsReadBy x.ask ((state_of v).kept x.lane x.number) x.answer.bytes
+      → IsFrontOf x.answer.bytes ((state_of v).kept x.lane x.number)
 
 -- What holds since the opening over this device: whatever is asked later, the turns are those of a session; what a cut
 -- might have left is of that run; and no call failed where the count of faults did not rise.
@@ -95,7 +99,8 @@ pub record IsBegun {D : Type 0} (g : Geometry) (first : View D) : Type 0 where
   pub serials : first.admitted < 2 ^ 63
 
 -- What is asked and answered, by the seat of the server: each caller's answers stand in its order, each once, its job
--- is that of the request in hand; each ask fits; and the calls are those of the journal.
+-- is that of the request in hand; each ask fits; each answer has the blocks that were read; and the calls are those of
+-- the journal.
 pub record IsKept (g : Geometry) (lanes : ℕ) (allowed : ℕ → ℕ) (seat : SeatView Op Answer)
     (hands : List (Option Hand)) (journal : List Item) (calls : List Call) : Type 0 where
   pub seats : length hands ≡ lanes
@@ -108,6 +113,7 @@ pub record IsKept (g : Geometry) (lanes : ℕ) (allowed : ℕ → ℕ) (seat : S
   pub fit : (lane n : ℕ) (op : Op) → request_of (asked_of lanes seat.given seat.jobs) lane n ≡ Some op
       → FitsSize g.block_size op
   pub within : (lane : ℕ) → count_of (asked_of lanes seat.given seat.jobs) lane ≤ allowed lane
+  pub blocks : HaveBlocksRead g.block_size seat.given
   pub entries : seat.given ≡ map entry_of calls
   pub of_journal : AreCalls journal seat.given
   pub count : length seat.given ≡ over_lanes (answered_of seat.given) lanes

@@ -7,8 +7,8 @@ use bow_units::{Op, Outcome, Payload};
 use std::alloc::{AllocError, Global};
 use std::marker::Model;
 
-/// The answer to a call: the place of its item in the journal, counted from 0; the outcome; and of a read what its
-/// payload then holds, else nothing.
+/// The answer to a call: the place of its item in the journal, counted from 0; the outcome; and the bytes of the blocks
+/// that were read, which are all blocks of a read at `Data`, the first `done` at `DiskFault { done }`, and else none.
 #[derive(Drop)]
 pub struct Answer {
     pub place: u32,

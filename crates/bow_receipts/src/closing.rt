@@ -28,9 +28,9 @@ pub struct Closed<D: Disk, R: Ranges> {
 
 impl<J: Naming<D>, D: Disk, R: Ranges> Desk<J, D, R> {
     /// Closes the desk, with all its passes, in the order in which it gave them. The journal is legal, with the ops of
-    /// the calls as its requests and their bytes as the contents of what was read; the calls are those of the journal,
-    /// each at its place; and for each pass they are exactly its calls, each once, in its order, with the answers that
-    /// it was given.
+    /// the calls as its requests and their bytes as the contents of what was read; each answer has as many bytes as the
+    /// blocks have that its call has read; the calls are those of the journal, each at its place; and for each pass
+    /// they are exactly its calls, each once, in its order, with the answers that it was given.
     pub fn close(self, passes: Vec<Pass<J, D>>) -> Closed<D, R>
         requires all { length passes.items ≡ J.callers }
         requires order { Numbered (λ i pass. pass.lane ≡ i) passes.items }

@@ -1,5 +1,5 @@
 // What lies under the lock.
-ghost use Rattle.std.specs.Prelude.{◌≡◌, ◌+◌, ◌-◌, ◌^◌, ◌<◌, Some, length, true, false, IsTrue};
+ghost use Rattle.std.specs.Prelude.{◌≡◌, ◌+◌, ◌-◌, ◌^◌, ◌<◌, ◌≤◌, Some, length, true, false, IsTrue};
 ghost use Rattle.bow_core.specs.Turns.{told_of};
 ghost use Rattle.bow_machine.specs.Steps.{Idle};
 ghost use Rattle.bow_receipts.specs.Copies.{read_by};
@@ -156,6 +156,7 @@ impl<D: Disk, R: Ranges> Service<D, R> {
     }
 
     // The request of the ticket is answered.
+    #[tactic(auto, using(crate::proofs::OpAsks::read_fits))]
     fn answer(&mut self, tags: &Tags<Ask, Answer>, ticket: Ticket, op: Op, outcome: Outcome)
         requires own { self.old.server.table ≡ tags.now }
         requires told { (h : Hand) × IsNotable self.old ticket h × IsAnswerable self.old h op }
@@ -174,9 +175,10 @@ impl<D: Disk, R: Ranges> Service<D, R> {
         } = hand;
         let (lane, number) = (job.lane, job.number);
         let place = self.journal.len() as u32;
+        let block_size = self.core.geometry().block_size;
         let Copies { answer, record } = copies;
-        let bytes = copied(answer, read_by(&op));
-        let kept = copied(record, read_by(&op));
+        let bytes = copied(answer, read_by(&op, outcome, block_size));
+        let kept = copied(record, read_by(&op, outcome, block_size));
         self.journal.push_reserved(Item::Answered {
             lane,
             number,
@@ -201,22 +203,31 @@ impl<D: Disk, R: Ranges> Service<D, R> {
     }
 }
 
-// What a read has read; no other op reads anything.
-fn read_by(op: &Op) -> &[u8]
-    ensures { result.now ≡ read_by op.now }
+// The blocks that a read has read, as its outcome says; no other op reads anything.
+fn read_by(op: &Op, outcome: Outcome, block_size: u32) -> &[u8]
+    ensures { result.now ≡ read_by block_size op.now outcome }
 {
-    match op {
-        Op::Read(_, payload) => payload.as_slice(),
-        Op::Write(_, _) | Op::Discard(_) | Op::Flush | Op::Prepare | Op::Commit => &[],
+    let Op::Read(_, payload) = op else {
+        return &[];
+    };
+    let bytes = payload.as_slice();
+    match outcome {
+        Outcome::Data => bytes,
+        Outcome::DiskFault { done } => {
+            let read = done as usize * block_size as usize;
+            &bytes[..read.min(bytes.len())]
+        }
+        _ => &[],
     }
 }
 
-// These bytes, in a payload of their length.
+// These bytes, in the room of a payload that is as long at least.
 fn copied(into: Payload, bytes: &[u8]) -> Payload
-    requires { length into ≡ length bytes.now }
+    requires { length bytes.now ≤ length into }
     ensures { result ≡ bytes.now }
 {
     let Payload { bytes: mut room } = into;
+    room.truncate(bytes.len());
     room.copy_from_slice(bytes);
     Payload::new(room)
 }
