@@ -71,8 +71,8 @@ pub record CallsLead {D : Type 0} (content : D → Option Content) (moment : D �
 -- The calls are those of the journal, each at its place, and of each caller they are exactly those that its pass made,
 -- each once, in its order, with the op that it handed over and the answer that it was given; each answer has the bytes
 -- of the blocks that were read, as many as its outcome says. Since the device with which the desk was set up no request
--- was left, what was done is a session of these calls, faults are counted, and the calls lead from each state with which
--- it began; where no call on the disk failed, ahead too.
+-- was left, what was done is a session of these calls, faults are counted, and the calls lead from each state with
+-- which it began; where no call on the disk failed, ahead too.
 pub record IsClosed {D : Type 0} (content : D → Option Content) (moment : D → ℕ) (left : D → ℕ → List (List ℕ)
     → Type 0) (faults : D → ℕ) (g : Geometry) (callers : ℕ) (begins : View D → Type 0) (passes : List Caller)
     (core : View D) (journal : List Item) (calls : List (Entry Op Answer)) : Type 0 where

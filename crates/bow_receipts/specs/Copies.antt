@@ -6,8 +6,8 @@ use Rattle.bow_units.specs.declared.requests.Outcome.{Outcome}
 use Rattle.bow_units.specs.declared.requests.Outcome.TheVariants as outcomes
 use Rattle.bow_receipts.specs.declared.asks.Copies.{Copies}
 
--- How many blocks a request has read, once it is answered so: a read all of its blocks, or those before the one at which
--- the disk failed; and else none.
+-- How many blocks a request has read, once it is answered so: a read all of its blocks, or those before the one at
+-- which the disk failed; and else none.
 abbrev pub blocks_read : Op → Outcome → ℕ
 blocks_read (ops.Read e payload) outcomes.Data = e.count
 blocks_read (ops.Read e payload) (outcomes.DiskFault done) = done

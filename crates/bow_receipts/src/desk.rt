@@ -45,9 +45,9 @@ impl<J: Naming<D>, D: Disk, R: Ranges> Model for Desk<J, D, R> {
 impl<J: Naming<D>, D: Disk, R: Ranges> Desk<J, D, R> {
     /// Makes a call: the device takes the op in, a read or a write with 1 to 16 blocks and a payload of that many, and
     /// the answer comes once it is carried out. The answer has the place of this call in the one history of all
-    /// callers, and of a read the blocks that were read; `close` says how many bytes these are, and which. `Spent` comes
-    /// exactly where the pass has made as many calls as it may; `NoMemory` else. Both come before anything else, and
-    /// hand the op back. It may wait.
+    /// callers, and of a read the blocks that were read; `close` says how many bytes these are, and which. `Spent`
+    /// comes exactly where the pass has made as many calls as it may; `NoMemory` else. Both come before anything else,
+    /// and hand the op back. It may wait.
     pub fn call<H: Wait>(
         &self,
         rt: &H,

@@ -13,6 +13,8 @@ mod faults;
 #[cfg(test)]
 mod images;
 #[cfg(test)]
+mod pasts;
+#[cfg(test)]
 mod phases;
 #[cfg(test)]
 mod phones;

@@ -1,3 +1,4 @@
+mod Beside
 mod Booting
 mod Checking
 mod Cutting

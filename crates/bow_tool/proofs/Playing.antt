@@ -15,6 +15,8 @@ use Rattle.bow_tool.specs.declared.refusals.Refusal.{Refusal}
 use Rattle.bow_tool.specs.Refusals.{status_of}
 use Rattle.bow_tool.specs.Outside.{Call, from_source}
 use Rattle.bow_session.specs.Sessions.{Run}
+use Rattle.bow_units.specs.declared.sizes.Extent.{Extent}
+use Rattle.bow_tool.specs.Pasts.{PastNotCleared}
 use Rattle.bow_tool.specs.Play.{PlayInOrder, RunNotCleared, RunRefused, TellsScript, WasNotPlayed, refusal_for}
 
 -- a source that tells a script gives no other text
@@ -62,3 +64,7 @@ run_refused c Was refusal order (inr memory) = ap status_of memory.0
 -- nor does the keeper fail
 pub run_clears : (c : Call) (Was : Run c.Disk → Type 0) (text : List ℕ) → PlayInOrder c → RunNotCleared c Was text → ⊥
 run_clears c Was text order failed = order.keeper failed.2.1.rose
+
+-- nor beside a reader
+pub past_clears : (number : ℕ) (e : Extent) (c : Call) (text : List ℕ) → PlayInOrder c → PastNotCleared number e c text → ⊥
+past_clears number e c text order failed = order.keeper failed.3.1.rose

@@ -1,7 +1,7 @@
 -- The commands that words ask for, and those that need no threads.
 use Rattle.std.proofs.Common.{◌≡◌, ℕ, None, Some, refl, arith}
 use Rattle.bow_words.specs.declared.commands.Command.{Command}
-use Rattle.bow_words.specs.declared.commands.Command.TheVariants.{Play, Run, Restore, Check, Forward, Start, Mark, NeedsCheckpoint, NeedsRollback, Abort, Boot, Drill}
+use Rattle.bow_words.specs.declared.commands.Command.TheVariants.{Play, Run, Restore, Check, Forward, Start, Mark, NeedsCheckpoint, NeedsRollback, Abort, Boot, Drill, Past}
 use Rattle.bow_words.specs.Plain as words
 use Rattle.bow_tool.specs.Commands.{IsInRange, IsManaged}
 
@@ -19,6 +19,7 @@ in_range NeedsRollback range = tt
 in_range (Abort retry) range = tt
 in_range Boot range = tt
 in_range (Drill number) range = tt
+in_range (Past number first count) range = (range.2, range.3)
 
 pub managed : (command : Command) → ((servers : ℕ) → command ≡ Run servers → ⊥) → IsManaged command
 managed (Play number) other = tt
@@ -33,3 +34,4 @@ managed NeedsRollback other = tt
 managed (Abort retry) other = tt
 managed Boot other = tt
 managed (Drill number) other = tt
+managed (Past number first count) other = tt

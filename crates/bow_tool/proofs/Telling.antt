@@ -22,19 +22,20 @@ use Rattle.vold_commands.specs.declared.boots.Booted.{Booted}
 use Rattle.vold_commands.specs.declared.boots.BootFault.{BootFault}
 use Rattle.vold_commands.specs.declared.boots.BootFault.TheVariants as boots
 use Rattle.bow_words.specs.declared.commands.Command.{Command}
-use Rattle.bow_words.specs.declared.commands.Command.TheVariants.{Play, Run, Restore, Check, Forward, Start, Mark, NeedsCheckpoint, NeedsRollback, Abort, Boot, Drill}
+use Rattle.bow_words.specs.declared.commands.Command.TheVariants.{Play, Run, Restore, Check, Forward, Start, Mark, NeedsCheckpoint, NeedsRollback, Abort, Boot, Drill, Past}
 use Rattle.bow_words.specs.Words.{AskForOne, Asks}
 use Rattle.bow_tool.specs.declared.refusals.Refusal.{Refusal}
 use Rattle.bow_tool.specs.declared.refusals.Refusal.TheVariants.{BadWords, BadScript, SourceFault, DiskFault, KeeperFault, NeedsRestore, BadChain, BadHeader, Reserved, BadAttempts, NoMemory, Stopped, BadGeometry}
 use Rattle.bow_tool.specs.Refusals.{refusal_line, status_of}
 use Rattle.bow_tool.specs.Outside.{Call}
 use Rattle.bow_tool.specs.Sizes.{SizesCause}
+use Rattle.bow_tool.specs.Pasts.{WasPlayedBeside, blocks_from}
 use Rattle.bow_tool.specs.Play.{ClearsAfter, PlayInOrder, RunNotCleared, RunRefused, RunText, WasPlayed, WasRun, transcript_of}
 use Rattle.bow_tool.specs.Outcomes.{IsTranscriptTold}
 use Rattle.bow_session.specs.Sessions.{Run as Session}
 use Rattle.bow_tool.specs.declared.outcomes.Outcome.{Outcome}
 use Rattle.bow_tool.specs.declared.outcomes.Outcome.TheVariants as outcome
-use Rattle.bow_tool.proofs.Playing.{run_clears, run_refused}
+use Rattle.bow_tool.proofs.Playing.{past_clears, run_clears, run_refused}
 use Rattle.bow_tool.specs.Check.{CheckCause, ImageInOrder, Finds, OfImage, OnlyReads, TellsChain}
 use Rattle.bow_tool.specs.Restores.{ForwardCause, IsForwardRefusal, IsForwarded, IsRestoreRefusal, IsRestored, RestoreCause}
 use Rattle.bow_tool.specs.Attempts.{AttemptCause, AttemptsInOrder, KeeperHolds, RanStep, StartRefusal, WasAsked}
@@ -245,6 +246,7 @@ no_fault NeedsRollback c text order failed = failed
 no_fault (Abort retry) c text order failed = failed
 no_fault Boot c text order failed = failed
 no_fault (Drill number) c text order failed = failed
+no_fault (Past number first count) c text order failed = past_clears number (blocks_from first count) c text order failed
 
 -- where nothing outside stands in the way of a command, only want of memory refuses it, or its limit
 pub command_ends : FaultyIsNotSound → (command : Command) (c : Call) (refusal : Refusal) → CommandInOrder command c → CommandCause command c refusal → Ends (MayStop command) refusal
@@ -260,6 +262,7 @@ command_ends law NeedsRollback c refusal order cause = attempts_end (MayStop Nee
 command_ends law (Abort retry) c refusal order cause = attempts_end (MayStop (Abort retry)) (RanStep c.keepers (aborted retry) c.keeper c.keeper_after) (c.keepers.faults c.keeper) (c.keepers.faults c.keeper_after) refusal (step_reads c (aborted retry) order) order.holds cause.1
 command_ends law Boot c refusal order cause = boot_ends law (MayStop Boot) c refusal order.0 order.1 cause
 command_ends law (Drill number) c refusal order cause = inl (ap status_of cause.1)
+command_ends law (Past number first count) c refusal order cause = run_ends (MayStop (Past number first count)) c (WasPlayedBeside number (blocks_from first count) c) refusal order cause
 
 none_five : (status : ℕ) → status ≡ 0 → status ≡ 5 → ⊥
 none_five status zero five = omega (arith, zero, five)

@@ -22,6 +22,7 @@ use Rattle.bow_tool.specs.declared.refusals.Refusal.{Refusal}
 use Rattle.bow_tool.specs.declared.refusals.Refusal.TheVariants.{BadWords, KeeperFault, NoMemory}
 use Rattle.bow_tool.specs.Refusals.{refusal_line, status_of}
 use Rattle.bow_tool.specs.Outside.{Call, AllLeft}
+use Rattle.bow_tool.specs.Pasts.{PastNotCleared, PastRefused, PastText, blocks_from}
 use Rattle.bow_tool.specs.Play.{PlayInOrder, RunNotCleared, RunRefused, RunText, WasPlayed, WasRun}
 use Rattle.bow_tool.specs.Check.{CheckText, CheckCause, ImageInOrder}
 use Rattle.bow_tool.specs.Restores.{RestoreText, RestoreCause, ForwardText, ForwardCause}
@@ -57,7 +58,7 @@ DoneText NeedsRollback c text = QuestionText needs_rollback c text
 DoneText (Abort retry) c text = StepText (aborted retry) c text
 DoneText Boot c text = BootText c text
 DoneText (Drill number) c text = AllLeft c × TellsDrill number text
-DoneText (Past number first count) c text = ⊥
+DoneText (Past number first count) c text = PastText number (blocks_from first count) c text
 
 -- why the command is refused
 abbrev pub CommandCause : Command → Call → Refusal → Type 0
@@ -73,12 +74,13 @@ CommandCause NeedsRollback c refusal = QuestionCause needs_rollback c refusal
 CommandCause (Abort retry) c refusal = StepCause (aborted retry) c refusal
 CommandCause Boot c refusal = BootCause c refusal
 CommandCause (Drill number) c refusal = AllLeft c × (refusal ≡ NoMemory)
-CommandCause (Past number first count) c refusal = AllLeft c × (refusal ≡ NoMemory)
+CommandCause (Past number first count) c refusal = PastRefused number (blocks_from first count) c refusal
 
 -- the command was done, but the keeper failed to remove the attempts after it: so a script's run may end
 abbrev pub NotClearedText : Command → Call → List ℕ → Type 0
 NotClearedText (Play number) c text = RunNotCleared c (WasPlayed number c) text
 NotClearedText (Run servers) c text = RunNotCleared c (WasRun c) text
+NotClearedText (Past number first count) c text = PastNotCleared number (blocks_from first count) c text
 NotClearedText command c text = ⊥
 
 -- the command came to this
@@ -115,7 +117,7 @@ CommandInOrder NeedsRollback c = AttemptsInOrder c
 CommandInOrder (Abort retry) c = AttemptsInOrder c
 CommandInOrder Boot c = ImageInOrder c × AttemptsInOrder c
 CommandInOrder (Drill number) c = Unit {0}
-CommandInOrder (Past number first count) c = ⊥
+CommandInOrder (Past number first count) c = PlayInOrder c
 
 -- it may stop at a limit
 abbrev pub MayStop : Command → Type 0

@@ -5,6 +5,7 @@ pub mod Commands
 pub mod Drills
 pub mod Outcomes
 pub mod Outside
+pub mod Pasts
 pub mod Play
 pub mod Refusals
 pub mod Restores

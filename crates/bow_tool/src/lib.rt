@@ -12,6 +12,7 @@ mod drill_plays;
 mod drills;
 mod lines;
 mod outcomes;
+mod pasts;
 mod plays;
 mod refusals;
 mod restores;

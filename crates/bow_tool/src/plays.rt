@@ -147,7 +147,7 @@ fn end_session<D: Disk, R: Ranges + Drop, K: Keeper>(
 }
 
 // Removes the attempts where the session has committed, and answers whether that went well.
-fn clear_after<D: Disk, R: Ranges + Drop, K: Keeper>(
+pub(crate) fn clear_after<D: Disk, R: Ranges + Drop, K: Keeper>(
     session: &Session<D, R>,
     keeper: &mut K,
 ) -> bool
@@ -161,7 +161,7 @@ fn clear_after<D: Disk, R: Ranges + Drop, K: Keeper>(
 }
 
 // The transcript as it is told: with the line of the keeper's fault where it failed.
-fn told(text: Result<Vec<u8>, NoMemory>, cleared: bool) -> Outcome
+pub(crate) fn told(text: Result<Vec<u8>, NoMemory>, cleared: bool) -> Outcome
     ensures { MatchResult text (λ t. IsTranscriptTold t.items cleared result)
         (λ _. result ≡ Outcome.Refused Refusal.NoMemory) }
 {
@@ -178,7 +178,7 @@ fn told(text: Result<Vec<u8>, NoMemory>, cleared: bool) -> Outcome
 }
 
 // Why there was no play, as a refusal.
-fn refusal_of(fault: PlayFault) -> Refusal
+pub(crate) fn refusal_of(fault: PlayFault) -> Refusal
     ensures { result ≡ refusal_for fault }
 {
     match fault {

@@ -10,6 +10,7 @@ use crate::boots::boot_image;
 use crate::checks::check;
 use crate::drills::make_drill;
 use crate::outcomes::{Outcome, outcome_of};
+use crate::pasts::play_beside;
 use crate::plays::{play_script, run_script};
 use crate::refusals::Refusal;
 use crate::restores::{forward_image, restore_image};
@@ -86,6 +87,7 @@ pub fn tool<
 /// | Command | Asks | What the sink has taken at status 0 |
 /// |---|---|---|
 /// | `Play` | the source, the disk, the keeper after a commit | the transcript of the script that the source gives |
+/// | `Past` | as `Play` | the transcript, and then the lines of the reader |
 /// | `Restore` | the disk | `restored entries E marks M`, or `nothing to restore` |
 /// | `Check` | the disk, which it only reads | the lines of the chain and `sound`, or `no log` |
 /// | `Forward` | the disk | `forwarded`, or `nothing to forward` |
@@ -98,7 +100,7 @@ pub fn tool<
 /// |---|---|---|
 /// | 4 | `source fault` | only where a call of the source failed; no call was made on the disk |
 /// | 3 | `bad script at line N` | exactly where the source gave no script: its first line at fault, 0 for the length |
-/// | 8 | `needs restore` | exactly where `Play` finds a magic in block 0; the image is unchanged |
+/// | 8 | `needs restore` | exactly where `Play` or `Past` finds a magic in block 0; the image is unchanged |
 /// | 13 | `bad geometry B N` | exactly where the disk states sizes that no device has; its image is unchanged |
 /// | 6 | `disk fault` | only where a call of the disk failed before a request or a text |
 /// | 9 | `bad chain: ..` | exactly where block 0 begins with a magic and the image is not sound: its first fault |
@@ -118,10 +120,17 @@ pub fn tool<
 /// the last one. Whatever it leaves is promised: over any number of restorations and boots, each cut anywhere,
 /// the first that ends well has the checkpoint back, or what was flushed.
 ///
+/// `Past` plays so with one more actor, which reads the blocks of the checkpoint beside the writers: all this holds of
+/// it too, and what it tells of a block was read in the checkpoint, at a point on the journal's way, and is what was
+/// saved of the block, if it was in use. Where its blocks are not on the device nothing is read, and
+/// `past out of range` stands in place of its lines. Where it finds no memory the requests are finished without it, and
+/// the status is 11.
+///
 /// A cut in a restoration or a boot leaves what might have been left before, or an image that passes on what the one at
 /// entry kept: so the checkpoint is never lost. A check leaves nothing that might not have been left before.
 ///
-/// Condition: the command is not `Run`, a limit is at least 1, and a start asks for at most 2147483646 retries.
+/// Condition: the command is not `Run`, a limit is at least 1, a start asks for at most 2147483646 retries, and 1 to
+/// 4096 blocks of the past are asked for.
 pub fn manage<D: Disk, K: Keeper, S: Source, W: Sink>(
     alloc: Global,
     command: Command,
@@ -297,6 +306,8 @@ fn obey<D: Disk, K: Keeper, S: Source>(
             (outcome_of(told_answer(alloc, answer)), disk, keeper)
         }
         Command::Drill(number) => (make_drill(alloc, number), disk, keeper),
-        Command::Past(_, _, _) => (Outcome::Refused(Refusal::NoMemory), disk, keeper),
+        Command::Past(number, first, count) => {
+            play_beside(alloc, number, first, count, disk, keeper, source)
+        }
     }
 }
