@@ -26,6 +26,15 @@ pub record OpenedOn {D : Type 0} (content : D → Option Content) (moment : D �
   pub stands : StandsIn content first (opening c.now)
   pub led : LedIn content first (opening c.now)
 
+-- The device was just opened on this disk, whose image the opening kept.
+pub record HasOpened {D : Type 0} (stated : D → Option Geometry) (content : D → Option Content) (moment : D → ℕ)
+    (left : D → ℕ → List (List ℕ) → Type 0) (faults : D → ℕ) (old : D) (first : View D) : Type 0 where
+  pub fresh : IsFresh first
+  pub valid : IsValid first.geometry
+  pub sizes : stated first.disk ≡ Some first.geometry
+  pub opened : KeepsImage stated content moment left faults old first.disk
+  pub found : (c : Content) → content old ≡ Some c → OpenedOn content moment old c first
+
 -- The session was loaded over a device that was just opened on this disk, whose image the opening kept, and has made no
 -- step.
 pub record HasBegun {D : Type 0} (stated : D → Option Geometry) (content : D → Option Content) (moment : D → ℕ)

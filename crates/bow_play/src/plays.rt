@@ -13,7 +13,7 @@ ghost use Rattle.bow_history.specs.DiskCuts.{StandsAheadToo};
 ghost use Rattle.bow_history.specs.Promises.{faults_in, held};
 ghost use Rattle.bow_session.specs.Sessions.{IsOver, plan_in};
 ghost use Rattle.bow_play.specs.Leading.{PlayLeads};
-ghost use Rattle.bow_play.specs.Beginning.{HasBegun};
+ghost use Rattle.bow_play.specs.Beginning.{HasBegun, HasOpened};
 ghost use Rattle.bow_play.specs.Playing.{DiskCause, IsPlay, PlayCause, fault_for};
 ghost use Rattle.bow_play.specs.Reading.{taken_from, GaveScript, ScriptCause};
 
@@ -99,9 +99,42 @@ pub fn load<D: Disk, R: Ranges + Drop, S: Source>(
     ensures kept { IfErr result (λ e. KeepsImage D.stated D.content D.moment D.left_since D.faults disk e.1) }
     ensures clock { IfErr result (λ e. (c : Content) → D.content disk ≡ Some c → D.moment e.1 ≤ D.moment disk + 2) }
 {
-    match take_script(alloc, source) {
-        Ok(script) => open(alloc, disk, script),
-        Err(fault) => Err((fault, disk)),
+    let (core, script) = match open(alloc, disk, source) {
+        Ok(opened) => opened,
+        Err(refused) => return Err(refused),
+    };
+    match Session::load(alloc, core, script) {
+        Ok(session) => Ok(session),
+        Err((core, NoMemory)) => Err((PlayFault::NoMemory, core.close())),
+    }
+}
+
+/// Reads a script from the source, as `play` does, and opens a device of 16 places on the disk. The script is within
+/// its limits, and the device has admitted no request.
+///
+/// Else the disk is handed back as by `play`, for the same causes.
+pub fn open<D: Disk, R: Ranges + Drop, S: Source>(
+    alloc: Global,
+    disk: D,
+    source: &mut S,
+) -> Result<(Core<D, R>, Script), (PlayFault, D)>
+    ensures given { IfOk result (λ r. GaveScript (taken_from S.left S.gave S.ended source.old source.new) r.1) }
+    ensures limits { IfOk result (λ r. IsWithinLimits r.1) }
+    ensures numbers { IfOk result (λ r. IsWellFormed r.1) }
+    ensures opened { IfOk result (λ r. HasOpened D.stated D.content D.moment D.left_since D.faults disk r.0) }
+    ensures cause { IfErr result (λ e. PlayCause D.stated D.content D.moment D.faults
+        (taken_from S.left S.gave S.ended source.old source.new) (S.faults source.old) (S.faults source.new) disk e.1
+        e.0) }
+    ensures kept { IfErr result (λ e. KeepsImage D.stated D.content D.moment D.left_since D.faults disk e.1) }
+    ensures clock { IfErr result (λ e. (c : Content) → D.content disk ≡ Some c → D.moment e.1 ≤ D.moment disk + 2) }
+{
+    let script = match take_script(alloc, source) {
+        Ok(script) => script,
+        Err(fault) => return Err((fault, disk)),
+    };
+    match Core::open(alloc, disk, 16) {
+        Ok(core) => Ok((core, script)),
+        Err((fault, disk)) => Err((fault_of(fault), disk)),
     }
 }
 
@@ -124,30 +157,6 @@ fn take_script<S: Source>(alloc: Global, source: &mut S) -> Result<Script, PlayF
         Ok(script) => Ok(script),
         Err(ScriptFault::BadScript(line)) => Err(PlayFault::BadScript(line)),
         Err(ScriptFault::NoMemory) => Err(PlayFault::NoMemory),
-    }
-}
-
-// Opens a device on the disk, and loads a script over it.
-fn open<D: Disk, R: Ranges + Drop>(
-    alloc: Global,
-    disk: D,
-    script: Script,
-) -> Result<Session<D, R>, (PlayFault, D)>
-    requires limits { IsWithinLimits script }
-    requires numbers { IsWellFormed script }
-    ensures script { IfOk result (λ s. s.script ≡ script) }
-    ensures begun { IfOk result (λ s. HasBegun D.stated D.content D.moment D.left_since D.faults disk s) }
-    ensures cause { IfErr result (λ e. DiskCause D.stated D.content D.moment D.faults disk e.1 e.0) }
-    ensures kept { IfErr result (λ e. KeepsImage D.stated D.content D.moment D.left_since D.faults disk e.1) }
-    ensures clock { IfErr result (λ e. (c : Content) → D.content disk ≡ Some c → D.moment e.1 ≤ D.moment disk + 2) }
-{
-    let core = match Core::open(alloc, disk, 16) {
-        Ok(core) => core,
-        Err((fault, disk)) => return Err((fault_of(fault), disk)),
-    };
-    match Session::load(alloc, core, script) {
-        Ok(session) => Ok(session),
-        Err((core, NoMemory)) => Err((PlayFault::NoMemory, core.close())),
     }
 }
 

@@ -7,13 +7,13 @@ ghost use Rattle.bow_receipts.specs.Called.{AreAllowed, GoesOn, HasMade, WentOn}
 ghost use Rattle.bow_receipts.specs.Passes.{Caller};
 
 use crate::desk::Desk;
-use crate::lines::{line_of, lines_of};
 use crate::naming::Naming;
 use crate::ops::op_of;
 use crate::passes::Pass;
 use bow_disk::Disk;
 use bow_ranges::Ranges;
 use bow_script::Script;
+use bow_session::{line_of, lines_of};
 use bow_units::{Gate, Geometry};
 use std::alloc::Global;
 use std::sync::Wait;

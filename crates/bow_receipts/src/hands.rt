@@ -1,12 +1,10 @@
 // What the callers have in hand.
 ghost use Rattle.std.specs.Prelude.{◌≡◌, ℕ, length, true};
-ghost use Rattle.bow_machine.specs.Steps.{extent_of};
 ghost use Rattle.bow_receipts.specs.Hands.{hand_at, lane_with};
 
 use crate::asks::Copies;
 use bow_core::Ticket;
 use bow_tags::Job;
-use bow_units::Op;
 
 // A request that the device has: its ticket, its job, its first block, and room for its answer.
 #[derive(Drop)]
@@ -31,17 +29,6 @@ pub(crate) fn lane_of(hands: &[Option<Hand>], ticket: Ticket) -> usize
         }
     }
     0
-}
-
-// The first block of a request.
-pub(crate) fn first_block(op: &Op) -> u64
-    ensures { result ≡ (extent_of op.now).first }
-{
-    match op {
-        Op::Read(extent, _) | Op::Write(extent, _) => extent.first,
-        Op::Discard(extent) => extent.first,
-        Op::Flush | Op::Prepare | Op::Commit => 0,
-    }
 }
 
 // Whether nobody has a request in hand.

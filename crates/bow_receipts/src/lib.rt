@@ -7,7 +7,6 @@ mod closing;
 mod desk;
 mod hands;
 mod laws;
-mod lines;
 mod locked;
 mod naming;
 mod ops;

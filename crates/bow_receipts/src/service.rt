@@ -6,12 +6,13 @@ ghost use Rattle.bow_receipts.specs.Copies.{read_by};
 ghost use Rattle.bow_receipts.specs.declared.hands.Hand.{Hand};
 
 use crate::asks::{Answer, Ask, Call, Copies};
-use crate::hands::{Hand, first_block, is_free, lane_of};
+use crate::hands::{Hand, is_free, lane_of};
 use crate::naming::Naming;
 use bow_core::{Core, Step, Ticket, Turn};
 use bow_disk::Disk;
 use bow_history::Item;
 use bow_ranges::Ranges;
+use bow_session::first_block;
 use bow_tags::{ServerSeat, Tags};
 use bow_units::{Op, Outcome, Payload};
 

@@ -15,6 +15,9 @@ mod sessions;
 
 pub use bow_history::{Actor, Item};
 pub use desks::actor_at;
+pub use lines::{line_of, lines_of};
 pub use parts::Part;
+pub use payloads::{begun_with, extent, patterned};
 pub use run_laws::run_law;
+pub use seats::first_block;
 pub use sessions::Session;

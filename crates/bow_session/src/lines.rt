@@ -4,8 +4,8 @@ ghost use Rattle.bow_session.specs.Requests.{lane_lines, section_lines};
 
 use bow_script::{Line, Script, Section};
 
-// The lines of a lane in a section.
-pub(crate) fn lines_of(section: &Section, lane: usize) -> &[Line]
+/// The lines of a lane in a section: none where the section has no such lane.
+pub fn lines_of(section: &Section, lane: usize) -> &[Line]
     ensures { result.now ≡ section_lines section.now lane }
 {
     if lane < section.lanes.len() {
@@ -16,8 +16,8 @@ pub(crate) fn lines_of(section: &Section, lane: usize) -> &[Line]
     }
 }
 
-// The line of request `number` of a lane.
-pub(crate) fn line_of(script: &Script, lane: usize, number: usize) -> Option<&Line>
+/// The line of request `number` of a lane, counted from 0 over all sections; `None` where the lane has no such request.
+pub fn line_of(script: &Script, lane: usize, number: usize) -> Option<&Line>
     ensures { option_copied result ≡ slice_get (lane_lines script.now lane) number }
 {
     let mut left = number;

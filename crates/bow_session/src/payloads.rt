@@ -82,7 +82,8 @@ pub(crate) fn request(
     }
 }
 
-fn extent(first: u32, count: u32) -> Extent
+/// The extent of so many blocks from this one on.
+pub fn extent(first: u32, count: u32) -> Extent
     ensures { result ≡ record { first = first; count = count } }
 {
     Extent {
@@ -100,8 +101,11 @@ fn lend(buffers: &mut Vec<Option<Payload>>, count: u32) -> Option<Payload>
     buffers[count as usize].take()
 }
 
-// The buffer with what a `write` line writes.
-fn patterned(buffer: Payload, size: u32, first: u32, count: u32, seed: u32) -> Payload
+/// The buffer with what a line `write first count seed` writes: the pattern of each block, or zeros where one of them is on
+/// no device.
+///
+/// Condition: at most 16 blocks of a size that blocks may have, and a buffer of their length in bytes.
+pub fn patterned(buffer: Payload, size: u32, first: u32, count: u32, seed: u32) -> Payload
     requires few { count ≤ 16 }
     requires size { IsBlockSize size }
     requires long { length buffer ≡ count * size }
@@ -143,8 +147,10 @@ fn fill_slot(bytes: &mut Vec<u8>, size: usize, slot: u32, block: u64, seed: u32)
     fill_pattern(block, seed, &mut bytes[start..start + size]);
 }
 
-// The buffer with these bytes, and zeros behind them.
-fn begun_with(buffer: Payload, text: &[u8]) -> Payload
+/// The buffer with these bytes, and zeros behind them.
+///
+/// Condition: there is room for them.
+pub fn begun_with(buffer: Payload, text: &[u8]) -> Payload
     requires { length text.now ≤ length buffer }
     ensures { result ≡ text.now ++ replicate (length buffer - length text.now) 0 }
 {

@@ -152,8 +152,8 @@ pub(crate) fn lane_of(seats: &[Seat], ticket: Ticket) -> usize
     0
 }
 
-// The first block of a request.
-pub(crate) fn first_block(op: &Op) -> u64
+/// The first block of a request, and 0 of one that has no extent.
+pub fn first_block(op: &Op) -> u64
     ensures { result ≡ (extent_of op.now).first }
 {
     match op {

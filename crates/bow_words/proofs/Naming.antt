@@ -5,7 +5,7 @@ use Rattle.clap.specs.Words.{Text}
 use Rattle.bow_words.specs.Names.{text_of}
 use Rattle.bow_words.specs.Words.{name_of}
 use Rattle.bow_words.specs.declared.names.Name.{Name}
-use Rattle.bow_words.specs.declared.names.Name.TheVariants.{Play, Run, Restore, Check, Forward, Start, Mark, NeedsCheckpoint, NeedsRollback, Abort, Boot, Drill, Past}
+use Rattle.bow_words.specs.declared.names.Name.TheVariants.{Play, Run, Restore, Check, Forward, Start, Mark, NeedsCheckpoint, NeedsRollback, Abort, Boot, Drill, Past, Callers}
 use Rattle.bow_words.specs.declared.commands.Command.{Command}
 use Rattle.bow_words.specs.declared.commands.Command.TheVariants as command
 
@@ -16,7 +16,8 @@ told_by n =
     else (if n == 100 * 110 + 3 then Run else (if n == 100 * 115 + 4 then Past
     else (if n == 100 * 114 + 7 then Forward else (if n == 100 * 97 + 5 then Start else (if n == 100 * 114 + 4 then Mark
     else (if n == 100 * 101 + 16 then NeedsCheckpoint else (if n == 100 * 101 + 14 then NeedsRollback
-    else (if n == 100 * 111 + 5 then Abort else (if n == 100 * 105 + 5 then Drill else Boot)))))))))))
+    else (if n == 100 * 111 + 5 then Abort else (if n == 100 * 105 + 5 then Drill
+    else (if n == 100 * 108 + 7 then Callers else Boot))))))))))))
 
 abbrev number_of : Text → ℕ
 number_of word = 100 * get_or word 2 0 + length word
@@ -35,6 +36,7 @@ told Abort = refl
 told Boot = refl
 told Drill = refl
 told Past = refl
+told Callers = refl
 
 -- names with one word are one name
 pub same_name : (a b : Name) → text_of a ≡ text_of b → a ≡ b
@@ -55,6 +57,7 @@ kind_of (command.Abort retry) = Abort
 kind_of command.Boot = Boot
 kind_of (command.Drill n) = Drill
 kind_of (command.Past n first count) = Past
+kind_of command.Callers = Callers
 
 -- the commands of a name
 abbrev pub IsNamed : Name → Command → Type 0
@@ -71,6 +74,7 @@ IsNamed Abort c = (retry : Bool) × (c ≡ command.Abort retry)
 IsNamed Boot c = c ≡ command.Boot
 IsNamed Drill c = (n : ℕ) × (c ≡ command.Drill n)
 IsNamed Past c = (n first count : ℕ) × (c ≡ command.Past n first count)
+IsNamed Callers c = c ≡ command.Callers
 
 pub spelled : (c : Command) → name_of c ≡ text_of (kind_of c)
 spelled (command.Play n) = refl
@@ -86,6 +90,7 @@ spelled (command.Abort retry) = refl
 spelled command.Boot = refl
 spelled (command.Drill n) = refl
 spelled (command.Past n first count) = refl
+spelled command.Callers = refl
 
 pub of_kind : (c : Command) → IsNamed (kind_of c) c
 of_kind (command.Play n) = (n, refl)
@@ -101,6 +106,7 @@ of_kind (command.Abort retry) = (retry, refl)
 of_kind command.Boot = refl
 of_kind (command.Drill n) = (n, refl)
 of_kind (command.Past n first count) = (n, first, count, refl)
+of_kind command.Callers = refl
 
 -- a command with the word of a name is one of that name
 pub named : (name : Name) (c : Command) → name_of c ≡ text_of name → IsNamed name c

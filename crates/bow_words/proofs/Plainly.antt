@@ -133,6 +133,7 @@ own_words_ask command.NeedsRollback range = none_taken
 own_words_ask (command.Abort false) range = no_retry
 own_words_ask (command.Abort true) range = with_retry
 own_words_ask command.Boot range = none_taken
+own_words_ask command.Callers range = none_taken
 
 same_lists : {a b : Text} {xs ys : List Text} → a ∷ xs ≡ b ∷ ys → (a ≡ b) × (xs ≡ ys)
 same_lists is = (cc, cc)
@@ -165,6 +166,7 @@ own_in_range own command.NeedsCheckpoint asks = tt
 own_in_range own command.NeedsRollback asks = tt
 own_in_range own (command.Abort retry) asks = tt
 own_in_range own command.Boot asks = tt
+own_in_range own command.Callers asks = tt
 
 pub ask_in_range : AskInRange
 ask_in_range [] c asks = absurd asks

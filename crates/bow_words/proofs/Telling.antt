@@ -4,7 +4,7 @@ use Rattle.std.proofs.lemmas.Fmt.{decimal_injective}
 use Rattle.clap.specs.Words.{Text}
 use Rattle.bow_words.specs.Words.{AreLimit, AreNumber, ArePast, AreRetry, AskForOne, OwnWords, SpellsIn, texts_of, truth_text}
 use Rattle.bow_words.specs.declared.names.Name.{Name}
-use Rattle.bow_words.specs.declared.names.Name.TheVariants.{Play, Run, Restore, Check, Forward, Start, Mark, NeedsCheckpoint, NeedsRollback, Abort, Boot, Drill, Past}
+use Rattle.bow_words.specs.declared.names.Name.TheVariants.{Play, Run, Restore, Check, Forward, Start, Mark, NeedsCheckpoint, NeedsRollback, Abort, Boot, Drill, Past, Callers}
 use Rattle.bow_words.specs.declared.commands.Command.{Command}
 use Rattle.bow_words.specs.declared.commands.Command.TheVariants as command
 use Rattle.bow_words.proofs.Naming.{IsNamed, kind_of, named, of_kind, spelled}
@@ -79,6 +79,7 @@ same_own own Past a b x y p q =
     let count = spells_one 1 4096 x.2 y.2 _ (omega arith) m.3 n.3 in
     x.3 ∙ ap (λ n. command.Past n x.1 x.2) number ∙ ap (λ f. command.Past y.0 f x.2) first
     ∙ ap (λ k. command.Past y.0 y.1 k) count ∙ sym y.3
+same_own own Callers a b x y p q = x ∙ sym y
 
 pub ask_for_one : AskForOne
 ask_for_one [] a b x y = absurd x

@@ -1,7 +1,7 @@
 -- The names of the commands, as words.
 use Rattle.std.specs.Prelude.{List, ℕ, codes}
 use Rattle.bow_words.specs.declared.names.Name.{Name}
-use Rattle.bow_words.specs.declared.names.Name.TheVariants.{Play, Run, Restore, Check, Forward, Start, Mark, NeedsCheckpoint, NeedsRollback, Abort, Boot, Drill, Past}
+use Rattle.bow_words.specs.declared.names.Name.TheVariants.{Play, Run, Restore, Check, Forward, Start, Mark, NeedsCheckpoint, NeedsRollback, Abort, Boot, Drill, Past, Callers}
 
 -- the word that is a name
 abbrev pub text_of : Name → List ℕ
@@ -18,3 +18,4 @@ text_of Abort = codes "abort"
 text_of Boot = codes "boot"
 text_of Drill = codes "drill"
 text_of Past = codes "past"
+text_of Callers = codes "callers"

@@ -101,6 +101,7 @@ name_of (command.Abort retry) = codes "abort"
 name_of command.Boot = codes "boot"
 name_of (command.Drill n) = codes "drill"
 name_of (command.Past n first count) = codes "past"
+name_of command.Callers = codes "callers"
 
 -- a command's own words
 abbrev pub OwnWords : List Text → Command → Type 0

@@ -39,6 +39,8 @@ pub enum Command {
     /// Play a script on one thread, by the schedule of this number, beside a reader of the checkpoint: of the blocks
     /// from this one, so many, from 1 to 4096.
     Past(u64, u32, u32),
+    /// Play a script by callers, one a lane, each with a receipt of each request.
+    Callers,
 }
 
 /// Reads the words after the program's name: `IMAGE ATTEMPTS BLOCK COMMAND` and the command's own words. BLOCK is
@@ -53,7 +55,7 @@ pub enum Command {
 /// | `restore` | none, or `--limit K` with K from 1 to 4294967295 |
 /// | `start` | a number from 0 to 2147483646 |
 /// | `abort` | none, or `--retry` |
-/// | `check`, `forward`, `mark`, `needs-checkpoint`, `needs-rollback`, `boot` | none |
+/// | `check`, `forward`, `mark`, `needs-checkpoint`, `needs-rollback`, `boot`, `callers` | none |
 ///
 /// `BadWords` comes exactly where the words ask for no command, and `NoMemory` where there is no memory, in place of
 /// any answer.
@@ -93,6 +95,7 @@ fn read_own(alloc: Global, name: Name, own: &[String]) -> Result<Command, WordsF
         Name::Boot => bare(alloc, own, Command::Boot),
         Name::Drill => { Ok(Command::Drill(read_number_in(alloc, own, 0, 0xffff_ffff_ffff_ffff)?)) }
         Name::Past => read_past(alloc, own),
+        Name::Callers => bare(alloc, own, Command::Callers),
     }
 }
 

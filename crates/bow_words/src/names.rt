@@ -19,6 +19,7 @@ pub(crate) enum Name {
     Boot,
     Drill,
     Past,
+    Callers,
 }
 
 /// The name that a word is, and `None` where it is no command's name.
@@ -40,6 +41,7 @@ pub(crate) fn read_name(word: &str) -> Option<Name>
         "boot" => Some(Name::Boot),
         "drill" => Some(Name::Drill),
         "past" => Some(Name::Past),
+        "callers" => Some(Name::Callers),
         _ => None,
     }
 }

@@ -1,19 +1,14 @@
-use Rattle.std.proofs.Common.{◌∙◌, sym, ap}
-use Rattle.bow_session.specs.Loading.{loaded}
-use Rattle.bow_session.specs.Sessions.{Run}
 use Rattle.bow_play.proofs.Runs.{bytes_before}
 use Rattle.bow_play.proofs.plays.open.Goals as goal
 
-pub returns-in-Ok-load-clause-begun : goal.returns-in-Ok-load-clause-begun
-returns-in-Ok-load-clause-begun g c =
-    let device = c.in-Ok.ensures in
-    let core = c.in-Ok.core in
-    let load = c.in-Ok-load.ensures in
+pub returns-in-Ok-open-clause-opened : goal.returns-in-Ok-open-clause-opened
+returns-in-Ok-open-clause-opened g c =
+    let device = c.in-Ok-open.ensures in
+    let core = c.in-Ok-open.core in
     record {
-      first = core;
-      is = load.fresh ∙ ap (λ script. loaded core script) (sym (ap (λ (v : Run g.row.D.Denot). v.script) load.fresh));
       fresh = record { memory = device.fresh.0; places = device.fresh.1; admitted = device.fresh.2; calls = device.fresh.3 };
       valid = device.valid;
+      sizes = device.opened.sizes;
       opened = device.kept;
       found = λ k is. record {
         plain = (device.stands k is).0;
@@ -22,6 +17,4 @@ returns-in-Ok-load-clause-begun g c =
         stands = (device.stands k is).1;
         led = device.led k is;
       };
-      run = load.run;
-      loaded_over = load.loaded;
     }
