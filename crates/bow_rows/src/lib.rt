@@ -5,6 +5,8 @@
 #[cfg(test)]
 mod boots;
 #[cfg(test)]
+mod callers;
+#[cfg(test)]
 mod chains;
 #[cfg(test)]
 mod device;

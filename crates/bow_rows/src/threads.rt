@@ -137,35 +137,76 @@ impl Gate for LastFirst {
     }
 }
 
+const LINES: [&str; 6] = [
+    "1.0 wrote 2\n",
+    "1.0 done\n",
+    "0.0 wrote 1\n",
+    "0.0 done\n",
+    "1.1 wrote 2\n",
+    "1.1 done\n",
+];
+
+// Where each of these lines begins, where all stand once in an order in which lane 0 waited, with nothing between them.
+fn places_in(told: &[u8]) -> Option<[usize; 6]> {
+    let mut places = [0usize; 6];
+    let mut bytes = 0usize;
+    for i in 0..6usize {
+        places[i] = place_of(told, LINES[i])?;
+        bytes = bytes.saturating_add(LINES[i].len());
+    }
+    let begins = places[0] == 0 && places[0] < places[1];
+    let waited = places[1] < places[2] && places[2] < places[3];
+    let went_on = places[1] < places[4] && places[4] < places[5];
+    let end = (places[3].saturating_add(9)).max(places[5].saturating_add(9));
+    if begins && waited && went_on && end == bytes {
+        return Some(places);
+    }
+    None
+}
+
+const SCRIPT: &str = "lane\nwrite 1 1 5\nlane\nwrite 2 1 6\nwrite 2 1 7\n";
+
 #[test]
 fn a_lane_goes_on_while_another_waits_at_the_gate(rt: HostRuntime) -> Result<(), Fail> {
     let gate = LastFirst::new();
-    let script = "lane\nwrite 1 1 5\nlane\nwrite 2 1 6\nwrite 2 1 7\n";
-    let told = told_by(&rt, rt.alloc(), &["run", "2"], script, &gate)?;
+    let told = told_by(&rt, rt.alloc(), &["run", "2"], SCRIPT, &gate)?;
     assert_eq!(rt; gate.gave_up.load(Ordering::SeqCst), 0);
     assert_eq!(rt; gate.version.load(Ordering::SeqCst), 3);
     assert_eq!(rt; gate.is_trim.load(Ordering::SeqCst), 1);
     assert_eq!(rt; gate.fell.load(Ordering::SeqCst), 0);
-    let mut places = [0usize; 6];
-    let lines = [
-        "1.0 wrote 2\n",
-        "1.0 done\n",
-        "0.0 wrote 1\n",
-        "0.0 done\n",
-        "1.1 wrote 2\n",
-        "1.1 done\n",
-    ];
-    let mut bytes = 0usize;
-    for i in 0..6usize {
-        let Some(place) = place_of(told.as_slice(), lines[i]) else {
-            panic!(rt; "a line that is not told once");
-        };
-        places[i] = place;
-        bytes = bytes.saturating_add(lines[i].len());
+    assert!(rt; places_in(told.as_slice()).is_some());
+    assert_eq!(rt; told.len(), 63);
+    Ok(())
+}
+
+// The number of lines before this place.
+fn lines_before(told: &[u8], place: usize) -> usize {
+    let mut lines = 0usize;
+    for i in 0..told.len().min(place) {
+        if told[i] == b'\n' {
+            lines = lines.saturating_add(1);
+        }
     }
-    assert_eq!(rt; told.len(), bytes);
-    assert!(rt; places[0] < places[1] && places[1] < places[2] && places[2] < places[3]);
-    assert!(rt; places[1] < places[4] && places[4] < places[5]);
+    lines
+}
+
+#[test]
+fn a_caller_goes_on_while_another_waits_at_the_gate(rt: HostRuntime) -> Result<(), Fail> {
+    let gate = LastFirst::new();
+    let alloc: Global = rt.alloc();
+    let told = told_by(&rt, alloc, &["callers"], SCRIPT, &gate)?;
+    assert_eq!(rt; gate.gave_up.load(Ordering::SeqCst), 0);
+    assert_eq!(rt; gate.fell.load(Ordering::SeqCst), 0);
+    let told = told.as_slice();
+    let places = places_in(told).ok_or("a line that is not in order")?;
+    let p = lines_before(told, places[3]);
+    let q = lines_before(told, places[1]);
+    let r = lines_before(told, places[5]);
+    let receipts = format!(in alloc;
+        "receipt 0.0 at {p}\nreceipt 1.0 at {q}\nreceipt 1.1 at {r}\n"
+    )?;
+    assert!(rt; told.ends_with(receipts.as_bytes()));
+    assert_eq!(rt; told.len(), receipts.len().saturating_add(63));
     Ok(())
 }
 

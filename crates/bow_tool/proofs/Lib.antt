@@ -1,10 +1,12 @@
 mod Beside
 mod Booting
+mod Calling
 mod Checking
 mod Cutting
 mod Drilling
 mod Imaging
 mod Making
+mod Nobody
 mod Opened
 mod Patterns
 mod Plans
@@ -12,5 +14,6 @@ mod Playing
 mod Ranges
 mod Returning
 mod Running
+mod Spelling
 mod Telling
 mod Transfers

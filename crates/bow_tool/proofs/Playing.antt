@@ -16,6 +16,7 @@ use Rattle.bow_tool.specs.Refusals.{status_of}
 use Rattle.bow_tool.specs.Outside.{Call, from_source}
 use Rattle.bow_session.specs.Sessions.{Run}
 use Rattle.bow_units.specs.declared.sizes.Extent.{Extent}
+use Rattle.bow_tool.specs.Callers.{CalledNotCleared, CallersRefused}
 use Rattle.bow_tool.specs.Pasts.{PastNotCleared}
 use Rattle.bow_tool.specs.Play.{PlayInOrder, RunNotCleared, RunRefused, TellsScript, WasNotPlayed, refusal_for}
 
@@ -68,3 +69,11 @@ run_clears c Was text order failed = order.keeper failed.2.1.rose
 -- nor beside a reader
 pub past_clears : (number : ℕ) (e : Extent) (c : Call) (text : List ℕ) → PlayInOrder c → PastNotCleared number e c text → ⊥
 past_clears number e c text order failed = order.keeper failed.3.1.rose
+
+-- nor do the callers of a script find anything else, or the keeper fail after them
+pub callers_refused : (c : Call) (refusal : Refusal) → PlayInOrder c → CallersRefused c refusal → status_of refusal ≡ 11
+callers_refused c refusal order (inl none) = ap status_of none.1 ∙ not_played c none.0 order none.2
+callers_refused c refusal order (inr memory) = ap status_of memory.0
+
+pub callers_clear : (c : Call) (text : List ℕ) → PlayInOrder c → CalledNotCleared c text → ⊥
+callers_clear c text order failed = order.keeper failed.3.1.rose

@@ -1,7 +1,7 @@
 -- The commands that words ask for, and those that need no threads.
 use Rattle.std.proofs.Common.{◌≡◌, ℕ, None, Some, refl, arith}
 use Rattle.bow_words.specs.declared.commands.Command.{Command}
-use Rattle.bow_words.specs.declared.commands.Command.TheVariants.{Play, Run, Restore, Check, Forward, Start, Mark, NeedsCheckpoint, NeedsRollback, Abort, Boot, Drill, Past}
+use Rattle.bow_words.specs.declared.commands.Command.TheVariants.{Play, Run, Restore, Check, Forward, Start, Mark, NeedsCheckpoint, NeedsRollback, Abort, Boot, Drill, Past, Callers}
 use Rattle.bow_words.specs.Plain as words
 use Rattle.bow_tool.specs.Commands.{IsInRange, IsManaged}
 
@@ -20,18 +20,20 @@ in_range (Abort retry) range = tt
 in_range Boot range = tt
 in_range (Drill number) range = tt
 in_range (Past number first count) range = (range.2, range.3)
+in_range Callers range = tt
 
-pub managed : (command : Command) → ((servers : ℕ) → command ≡ Run servers → ⊥) → IsManaged command
-managed (Play number) other = tt
-managed (Run servers) other = absurd (other servers refl)
-managed (Restore limit) other = tt
-managed Check other = tt
-managed Forward other = tt
-managed (Start retries) other = tt
-managed Mark other = tt
-managed NeedsCheckpoint other = tt
-managed NeedsRollback other = tt
-managed (Abort retry) other = tt
-managed Boot other = tt
-managed (Drill number) other = tt
-managed (Past number first count) other = tt
+pub managed : (command : Command) → ((servers : ℕ) → command ≡ Run servers → ⊥) → (command ≡ Callers → ⊥) → IsManaged command
+managed (Play number) other callers = tt
+managed (Run servers) other callers = absurd (other servers refl)
+managed (Restore limit) other callers = tt
+managed Check other callers = tt
+managed Forward other callers = tt
+managed (Start retries) other callers = tt
+managed Mark other callers = tt
+managed NeedsCheckpoint other callers = tt
+managed NeedsRollback other callers = tt
+managed (Abort retry) other callers = tt
+managed Boot other callers = tt
+managed (Drill number) other callers = tt
+managed (Past number first count) other callers = tt
+managed Callers other callers = absurd (callers refl)

@@ -22,20 +22,21 @@ use Rattle.vold_commands.specs.declared.boots.Booted.{Booted}
 use Rattle.vold_commands.specs.declared.boots.BootFault.{BootFault}
 use Rattle.vold_commands.specs.declared.boots.BootFault.TheVariants as boots
 use Rattle.bow_words.specs.declared.commands.Command.{Command}
-use Rattle.bow_words.specs.declared.commands.Command.TheVariants.{Play, Run, Restore, Check, Forward, Start, Mark, NeedsCheckpoint, NeedsRollback, Abort, Boot, Drill, Past}
+use Rattle.bow_words.specs.declared.commands.Command.TheVariants.{Play, Run, Restore, Check, Forward, Start, Mark, NeedsCheckpoint, NeedsRollback, Abort, Boot, Drill, Past, Callers}
 use Rattle.bow_words.specs.Words.{AskForOne, Asks}
 use Rattle.bow_tool.specs.declared.refusals.Refusal.{Refusal}
 use Rattle.bow_tool.specs.declared.refusals.Refusal.TheVariants.{BadWords, BadScript, SourceFault, DiskFault, KeeperFault, NeedsRestore, BadChain, BadHeader, Reserved, BadAttempts, NoMemory, Stopped, BadGeometry}
 use Rattle.bow_tool.specs.Refusals.{refusal_line, status_of}
-use Rattle.bow_tool.specs.Outside.{Call}
+use Rattle.bow_tool.specs.Outside.{Call, KeeperView}
 use Rattle.bow_tool.specs.Sizes.{SizesCause}
 use Rattle.bow_tool.specs.Pasts.{WasPlayedBeside, blocks_from}
-use Rattle.bow_tool.specs.Play.{ClearsAfter, PlayInOrder, RunNotCleared, RunRefused, RunText, WasPlayed, WasRun, transcript_of}
-use Rattle.bow_tool.specs.Outcomes.{IsTranscriptTold}
+use Rattle.bow_tool.specs.Callers.{CallersCame, CallersRun, ClearsAfterCalls, IsWhole, WasCalled, called_text}
+use Rattle.bow_tool.specs.Play.{Clears, ClearsAfter, PlayInOrder, RunNotCleared, RunRefused, RunText, WasPlayed, WasRun, transcript_of}
+use Rattle.bow_tool.specs.Outcomes.{IsCalledTold, IsTranscriptTold}
 use Rattle.bow_session.specs.Sessions.{Run as Session}
 use Rattle.bow_tool.specs.declared.outcomes.Outcome.{Outcome}
 use Rattle.bow_tool.specs.declared.outcomes.Outcome.TheVariants as outcome
-use Rattle.bow_tool.proofs.Playing.{past_clears, run_clears, run_refused}
+use Rattle.bow_tool.proofs.Playing.{callers_clear, callers_refused, past_clears, run_clears, run_refused}
 use Rattle.bow_tool.specs.Check.{CheckCause, ImageInOrder, Finds, OfImage, OnlyReads, TellsChain}
 use Rattle.bow_tool.specs.Restores.{ForwardCause, IsForwardRefusal, IsForwarded, IsRestoreRefusal, IsRestored, RestoreCause}
 use Rattle.bow_tool.specs.Attempts.{AttemptCause, AttemptsInOrder, KeeperHolds, RanStep, StartRefusal, WasAsked}
@@ -247,6 +248,7 @@ no_fault (Abort retry) c text order failed = failed
 no_fault Boot c text order failed = failed
 no_fault (Drill number) c text order failed = failed
 no_fault (Past number first count) c text order failed = past_clears number (blocks_from first count) c text order failed
+no_fault Callers c text order failed = callers_clear c text order failed
 
 -- where nothing outside stands in the way of a command, only want of memory refuses it, or its limit
 pub command_ends : FaultyIsNotSound → (command : Command) (c : Call) (refusal : Refusal) → CommandInOrder command c → CommandCause command c refusal → Ends (MayStop command) refusal
@@ -263,6 +265,7 @@ command_ends law (Abort retry) c refusal order cause = attempts_end (MayStop (Ab
 command_ends law Boot c refusal order cause = boot_ends law (MayStop Boot) c refusal order.0 order.1 cause
 command_ends law (Drill number) c refusal order cause = inl (ap status_of cause.1)
 command_ends law (Past number first count) c refusal order cause = run_ends (MayStop (Past number first count)) c (WasPlayedBeside number (blocks_from first count) c) refusal order cause
+command_ends law Callers c refusal order cause = inl (callers_refused c refusal order cause)
 
 none_five : (status : ℕ) → status ≡ 0 → status ≡ 5 → ⊥
 none_five status zero five = omega (arith, zero, five)
@@ -355,11 +358,38 @@ run_outcome servers c (outcome.Done text) came = came
 run_outcome servers c (outcome.Refused refusal) came = came
 run_outcome servers c (outcome.NotCleared text) came = came
 
+-- whether it has committed, said otherwise
+pub clears_for : {K : Type 0} (v : KeeperView K) (P Q : Type 0) (old new : K) (cleared : Bool) → (P → Q) → (Q → P) → Clears v P old new cleared → Clears v Q old new cleared
+clears_for v P Q old new true to from (inl done) = inl (to done.0, done.1)
+clears_for v P Q old new true to from (inr left) = inr (λ is. left.0 (from is), left.1)
+clears_for v P Q old new false to from failed = (to failed.0, failed.1)
+
+-- what a script came to that callers ran
+pub called_came : (c : Call) (r : CallersRun c.Disk) (whole cleared : Bool) (o : Outcome) → WasCalled c r → (whole ≡ true → IsWhole r) → ClearsAfterCalls c r cleared → IsCalledTold whole (called_text r) cleared o → CallersCame c o
+called_came c r true true (outcome.Done told) was all clears is = (r, was, all refl, clears, is)
+called_came c r true false (outcome.Done told) was all clears is = absurd is
+called_came c r true true (outcome.NotCleared told) was all clears is = absurd is
+called_came c r true false (outcome.NotCleared told) was all clears is = (r, was, all refl, clears, is)
+called_came c r true cleared (outcome.Refused refusal) was all clears is = inr (is, (r, was, (cleared, clears)))
+called_came c r false cleared o was all clears is = subst (CallersCame c) (sym is) (inr (refl, (r, was, (cleared, clears))))
+
+pub callers_outcome : (c : Call) (o : Outcome) → CallersCame c o → IsOutcome Callers c o
+callers_outcome c (outcome.Done text) came = came
+callers_outcome c (outcome.Refused refusal) came = came
+callers_outcome c (outcome.NotCleared text) came = came
+
 -- the transcript was told, or found no memory
 pub told_of : {E : Type 0} (spelled : List ℕ) (text : Result (Vec ℕ Global) E) (cleared : Bool) (o : Outcome) → IfOk text (λ t. t.items ≡ spelled) → MatchResult text (λ t. IsTranscriptTold t.items cleared o) (λ _. o ≡ outcome.Refused NoMemory) → IsTranscriptTold spelled cleared o
 told_of spelled (Ok t) cleared o is told = subst (λ x. IsTranscriptTold x cleared o) is told
 told_of spelled (Err e) true o is told = subst (IsTranscriptTold spelled true) (sym told) refl
 told_of spelled (Err e) false o is told = subst (IsTranscriptTold spelled false) (sym told) refl
+
+-- it was told where all was called, or found no memory
+pub called_told : {E : Type 0} (spelled : List ℕ) (text : Result (Vec ℕ Global) E) (whole cleared : Bool) (o : Outcome) → IfOk text (λ _. whole ≡ true) → IfOk text (λ t. t.items ≡ spelled)
+    → MatchResult text (λ t. IsTranscriptTold t.items cleared o) (λ _. o ≡ outcome.Refused NoMemory) → IsCalledTold whole spelled cleared o
+called_told spelled (Ok t) whole cleared o all is told = subst (λ w. IsCalledTold w spelled cleared o) (sym all) (subst (λ x. IsTranscriptTold x cleared o) is told)
+called_told spelled (Err e) true cleared o all is told = told_of spelled (Err e) cleared o is told
+called_told spelled (Err e) false cleared o all is told = told
 
 refused_of : (words : List (String Global)) (command : Command) (c : Call) (refusal : Refusal) (text : List ℕ) → Asks words command → IsRefusedWith (CommandCause command c) (NotClearedText command c) refusal text → IsRefusedWith (RefusalCause words c) (λ t. AskFor words (λ x. NotClearedText x c t)) refusal text
 refused_of words command c refusal text asks (inl told) = inl (caused told.0, told.1)

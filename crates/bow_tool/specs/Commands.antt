@@ -24,6 +24,7 @@ use Rattle.bow_tool.specs.Refusals.{refusal_line, status_of}
 use Rattle.bow_tool.specs.Outside.{Call, AllLeft}
 use Rattle.bow_tool.specs.Pasts.{PastNotCleared, PastRefused, PastText, blocks_from}
 use Rattle.bow_tool.specs.Play.{PlayInOrder, RunNotCleared, RunRefused, RunText, WasPlayed, WasRun}
+use Rattle.bow_tool.specs.Callers.{CalledNotCleared, CalledText, CallersRefused}
 use Rattle.bow_tool.specs.Check.{CheckText, CheckCause, ImageInOrder}
 use Rattle.bow_tool.specs.Restores.{RestoreText, RestoreCause, ForwardText, ForwardCause}
 use Rattle.bow_tool.specs.Attempts.{AttemptsInOrder, KeeperHolds, QuestionCause, QuestionText, StartRefusal, StartText, StepCause, StepText}
@@ -42,6 +43,7 @@ IsInRange command = Unit {0}
 -- the command needs no threads
 abbrev pub IsManaged : Command → Type 0
 IsManaged (Run servers) = ⊥
+IsManaged Callers = ⊥
 IsManaged command = Unit {0}
 
 -- the command was done, with this text
@@ -59,6 +61,7 @@ DoneText (Abort retry) c text = StepText (aborted retry) c text
 DoneText Boot c text = BootText c text
 DoneText (Drill number) c text = AllLeft c × TellsDrill number text
 DoneText (Past number first count) c text = PastText number (blocks_from first count) c text
+DoneText Callers c text = CalledText c text
 
 -- why the command is refused
 abbrev pub CommandCause : Command → Call → Refusal → Type 0
@@ -75,12 +78,14 @@ CommandCause (Abort retry) c refusal = StepCause (aborted retry) c refusal
 CommandCause Boot c refusal = BootCause c refusal
 CommandCause (Drill number) c refusal = AllLeft c × (refusal ≡ NoMemory)
 CommandCause (Past number first count) c refusal = PastRefused number (blocks_from first count) c refusal
+CommandCause Callers c refusal = CallersRefused c refusal
 
 -- the command was done, but the keeper failed to remove the attempts after it: so a script's run may end
 abbrev pub NotClearedText : Command → Call → List ℕ → Type 0
 NotClearedText (Play number) c text = RunNotCleared c (WasPlayed number c) text
 NotClearedText (Run servers) c text = RunNotCleared c (WasRun c) text
 NotClearedText (Past number first count) c text = PastNotCleared number (blocks_from first count) c text
+NotClearedText Callers c text = CalledNotCleared c text
 NotClearedText command c text = ⊥
 
 -- the command came to this
@@ -118,6 +123,7 @@ CommandInOrder (Abort retry) c = AttemptsInOrder c
 CommandInOrder Boot c = ImageInOrder c × AttemptsInOrder c
 CommandInOrder (Drill number) c = Unit {0}
 CommandInOrder (Past number first count) c = PlayInOrder c
+CommandInOrder Callers c = PlayInOrder c
 
 -- it may stop at a limit
 abbrev pub MayStop : Command → Type 0

@@ -1,5 +1,7 @@
 pub mod Attempts
 pub mod Boots
+pub mod CallLines
+pub mod Callers
 pub mod Check
 pub mod Commands
 pub mod Drills

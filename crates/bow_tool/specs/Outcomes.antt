@@ -15,6 +15,11 @@ IsTranscriptTold text true (NotCleared told) = ⊥
 IsTranscriptTold text false (NotCleared told) = told.items ≡ text ++ refusal_line KeeperFault
 IsTranscriptTold text cleared (Refused refusal) = refusal ≡ NoMemory
 
+-- so it is told, if all was called; else there was no memory for a call
+abbrev pub IsCalledTold : Bool → List ℕ → Bool → Outcome → Type 0
+IsCalledTold true text cleared told = IsTranscriptTold text cleared told
+IsCalledTold false text cleared told = told ≡ Refused NoMemory
+
 -- a drill of this number is told; or there was no memory for it
 abbrev pub IsDrillTold : ℕ → Outcome → Type 0
 IsDrillTold number (Done told) = TellsDrill number told.items

@@ -10,8 +10,6 @@ use Rattle.bow_guard.specs.Standing.{StandsFor}
 use Rattle.bow_core.specs.Openings.{KeepsImage}
 use Rattle.bow_script.specs.declared.scripts.Line.{Line}
 use Rattle.bow_script.specs.Scripts.{IsScriptText}
-use Rattle.bow_history.specs.declared.items.Item.{Item}
-use Rattle.bow_history.specs.Journal.{Plan}
 use Rattle.bow_history.specs.Complete.{IsComplete}
 use Rattle.bow_history.specs.DiskCuts.{StandsAheadToo}
 use Rattle.bow_history.specs.Promises.{faults_in, held}
@@ -78,16 +76,15 @@ pub record IsNotCleared {K : Type 0} (v : KeeperView K) (old new : K) : Type 0 w
   pub time : TimeGoes (v.kept new) 1 (v.moment old) (v.moment new) (v.left_since old) (v.left_since new) (λ k. k ≡ None)
   pub rose : Rose (v.faults old) (v.faults new)
 
--- After a commit that was answered Done the attempts are removed, and else the keeper is not asked. It is told whether
--- that went well.
-abbrev pub Clears : {K : Type 0} → KeeperView K → Plan → List Item → K → K → Bool → Type 0
-Clears v plan journal old new true = (HasCommitted plan journal × IsCleared v old new)
-    ⊎ ((HasCommitted plan journal → ⊥) × (new ≡ old))
-Clears v plan journal old new false = HasCommitted plan journal × IsNotCleared v old new
+-- Where it has committed, the attempts are removed, and else the keeper is not asked. It is told whether that went
+-- well.
+abbrev pub Clears : {K : Type 0} → KeeperView K → Type 0 → K → K → Bool → Type 0
+Clears v committed old new true = (committed × IsCleared v old new) ⊎ ((committed → ⊥) × (new ≡ old))
+Clears v committed old new false = committed × IsNotCleared v old new
 
--- so after this session, in a call of the program
+-- so after this session, in a call of the program, by whether a commit was answered Done
 abbrev pub ClearsAfter : (c : Call) → Run c.Disk → Bool → Type 0
-ClearsAfter c s cleared = Clears c.keepers (plan_in s) s.journal c.keeper c.keeper_after cleared
+ClearsAfter c s cleared = Clears c.keepers (HasCommitted (plan_in s) s.journal) c.keeper c.keeper_after cleared
 
 -- a script that was run so: the text is the transcript
 abbrev pub RunText : (c : Call) → (Run c.Disk → Type 0) → List ℕ → Type 0

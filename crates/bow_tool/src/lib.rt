@@ -4,6 +4,8 @@
 
 mod attempts;
 mod boots;
+mod call_lines;
+mod callers;
 mod checks;
 mod drill_cuts;
 mod drill_disks;

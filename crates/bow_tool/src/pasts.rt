@@ -2,6 +2,7 @@
 ghost use Rattle.std.specs.Prelude.{◌≡◌, ◌≤◌, Bool, IfOk};
 ghost use Rattle.bow_session.specs.Sessions.{plan_in};
 ghost use Rattle.bow_past.specs.Beside.{IsNew, MaybeAgrees};
+ghost use Rattle.bow_play.specs.Committing.{HasCommitted};
 ghost use Rattle.bow_words.specs.declared.commands.Command.TheVariants as commands;
 ghost use Rattle.bow_tool.specs.Commands.{IsOutcome};
 ghost use Rattle.bow_tool.specs.Outside.{call_of, disk_view, keeper_view, source_view};
@@ -14,7 +15,7 @@ use crate::plays::{clear_after, refusal_of, told};
 use crate::refusals::Refusal;
 use bow_disk::Disk;
 use bow_past::{Past, reading_lines, run_beside};
-use bow_play::load;
+use bow_play::{has_committed, load};
 use bow_ranges::Ranges;
 use bow_report::transcript;
 use bow_session::Session;
@@ -88,10 +89,10 @@ fn end_beside<D: Disk, R: Ranges + Drop, K: Keeper>(
 ) -> (Outcome, D, K)
     requires { IsOfBlocks extent past }
     ensures disk { result.1 ≡ session.core.disk }
-    ensures told { (cleared : Bool) × Clears (keeper_view K.kept K.moment K.left_since K.faults) (plan_in session)
-        session.journal keeper result.2 cleared × IsToldBeside extent session past cleared result.0 }
+    ensures told { (cleared : Bool) × Clears (keeper_view K.kept K.moment K.left_since K.faults) (HasCommitted (plan_in
+        session) session.journal) keeper result.2 cleared × IsToldBeside extent session past cleared result.0 }
 {
-    let cleared = clear_after(&session, &mut keeper);
+    let cleared = clear_after(has_committed(&session), &mut keeper);
     let text = text_beside(alloc, &session, extent, &past);
     let disk = session.close().close();
     (told(text, cleared), disk, keeper)

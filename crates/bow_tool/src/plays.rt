@@ -1,10 +1,11 @@
 // The play of a script, on one thread or by threads, with its transcript.
-ghost use Rattle.std.specs.Prelude.{◌≡◌, ◌≤◌, ℕ, Bool, List, [], Some, IfErr, IfOk, MatchResult};
+ghost use Rattle.std.specs.Prelude.{◌≡◌, ◌≤◌, ℕ, Bool, IsTrue, List, [], Some, IfErr, IfOk, MatchResult};
 ghost use Rattle.bow_units.specs.declared.sizes.Geometry.{Geometry};
 ghost use Rattle.bow_disk.specs.Disk.{Content, IsCrash, IsImage, IsShaped};
 ghost use Rattle.bow_core.specs.Views.{View};
 ghost use Rattle.bow_history.specs.Complete.{IsComplete};
 ghost use Rattle.bow_history.specs.Fits.{Agrees};
+ghost use Rattle.bow_play.specs.Committing.{HasCommitted};
 ghost use Rattle.bow_session.specs.Leads.{WasLoaded};
 ghost use Rattle.bow_session.specs.Sessions.{IsOver, plan_in, state_in};
 ghost use Rattle.bow_tool.specs.Commands.{IsOutcome};
@@ -90,7 +91,7 @@ pub(crate) fn run_script<
 
 // What a disk tells has its sizes, and a cut at a moment leaves what it may leave then: the laws of the trait, for a
 // caller whose disk goes to other threads.
-fn disk_law<D: Disk>()
+pub(crate) fn disk_law<D: Disk>()
     ensures shaped { (d : D) (c : Content) → D.content d ≡ Some c → (g : Geometry) → D.stated d ≡ Some g
         → IsShaped g.block_size g.blocks c }
     ensures cuts_shaped { (d : D) (c : Content) → D.content d ≡ Some c → (g : Geometry) → D.stated d ≡ Some g
@@ -137,24 +138,21 @@ fn end_session<D: Disk, R: Ranges + Drop, K: Keeper>(
     mut keeper: K,
 ) -> (Outcome, D, K)
     ensures disk { result.1 ≡ session.core.disk }
-    ensures told { (cleared : Bool) × Clears (keeper_view K.kept K.moment K.left_since K.faults) (plan_in session)
-        session.journal keeper result.2 cleared × IsTranscriptTold (transcript_of session) cleared result.0 }
+    ensures told { (cleared : Bool) × Clears (keeper_view K.kept K.moment K.left_since K.faults) (HasCommitted (plan_in
+        session) session.journal) keeper result.2 cleared × IsTranscriptTold (transcript_of session) cleared result.0 }
 {
-    let cleared = clear_after(&session, &mut keeper);
+    let cleared = clear_after(has_committed(&session), &mut keeper);
     let text = transcript(alloc, &session);
     let disk = session.close().close();
     (told(text, cleared), disk, keeper)
 }
 
-// Removes the attempts where the session has committed, and answers whether that went well.
-pub(crate) fn clear_after<D: Disk, R: Ranges + Drop, K: Keeper>(
-    session: &Session<D, R>,
-    keeper: &mut K,
-) -> bool
-    ensures { Clears (keeper_view K.kept K.moment K.left_since K.faults) (plan_in session.now) session.now.journal
-        keeper.old keeper.new result }
+// Removes the attempts where a commit was answered `Done`, and answers whether that went well.
+pub(crate) fn clear_after<K: Keeper>(has_committed: bool, keeper: &mut K) -> bool
+    ensures { Clears (keeper_view K.kept K.moment K.left_since K.faults) (IsTrue has_committed) keeper.old keeper.new
+        result }
 {
-    if !has_committed(session) {
+    if !has_committed {
         return true;
     }
     committed(keeper).is_ok()

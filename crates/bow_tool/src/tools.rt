@@ -1,12 +1,13 @@
 // The top call.
 ghost use Rattle.std.specs.Prelude.{◌≡◌, ◌≤◌};
-ghost use Rattle.bow_words.specs.declared.commands.Command.TheVariants.{Run};
+ghost use Rattle.bow_words.specs.declared.commands.Command.TheVariants.{Callers, Run};
 ghost use Rattle.bow_tool.specs.Tellings.{refusal_of_words};
 ghost use Rattle.bow_tool.specs.Outside.{call_of, disk_view, keeper_view, source_view};
 ghost use Rattle.bow_tool.specs.Commands.{IsInRange, IsManaged, IsOutcome, IsOutcomePut, IsPut, IsRefusalPut, TellsCommand, TellsWords};
 
 use crate::attempts::{told_answer, told_attempts, told_start};
 use crate::boots::boot_image;
+use crate::callers::call_script;
 use crate::checks::check;
 use crate::drills::make_drill;
 use crate::outcomes::{Outcome, outcome_of};
@@ -34,10 +35,17 @@ pub struct Ended<D, K> {
 }
 
 /// Does what the words ask for, and puts what it tells into the sink. The words are read by `read_words`. What they ask
-/// for is done by `manage`, whose table has the other statuses; but `Run` is done by threads. It does what `Play` does,
-/// with the same statuses and lines, and the steps come in the order in which the threads get to make them, in place of
-/// that of the draws. Before a lane posts a request it asks the gate until the gate lets it start: so `Run` may wait,
-/// and no other command does.
+/// for is done by `manage`, whose table has the other statuses; but `Run` and `Callers` are done by threads. They do
+/// what `Play` does, with the same statuses, and the steps come in the order in which the threads get to make them, in
+/// place of that of the draws. Before a lane's request each asks the gate until the gate lets it start: so these two
+/// may wait, and no other command does.
+///
+/// By `Run` the lanes post their requests, servers make the steps, and the lines are those of `Play`. By `Callers` each
+/// lane calls the device itself, with a pass and bytes of its own, and makes steps until its answer is there. Behind
+/// the lines of `Play` stand the receipts of all calls, lane by lane: `receipt L.N at P`, P being the place of the
+/// answer in the one journal of all, counted from 0. Each lane's calls are its requests, in order, each with the answer
+/// that it was given. Where a call finds no memory, its lane and the later sections make no further call, and the
+/// status is 11.
 ///
 /// | Status | What the sink has taken | Comes |
 /// |---|---|---|
@@ -129,8 +137,8 @@ pub fn tool<
 /// A cut in a restoration or a boot leaves what might have been left before, or an image that passes on what the one at
 /// entry kept: so the checkpoint is never lost. A check leaves nothing that might not have been left before.
 ///
-/// Condition: the command is not `Run`, a limit is at least 1, a start asks for at most 2147483646 retries, and 1 to
-/// 4096 blocks of the past are asked for.
+/// Condition: the command is neither `Run` nor `Callers`, a limit is at least 1, a start asks for at most 2147483646
+/// retries, and 1 to 4096 blocks of the past are asked for.
 pub fn manage<D: Disk, K: Keeper, S: Source, W: Sink>(
     alloc: Global,
     command: Command,
@@ -177,6 +185,7 @@ fn serve<H: Threads + Wait + Sync, D: Disk + Send, K: Keeper, S: Source, W: Sink
 {
     match command {
         Command::Run(servers) => run_lanes(rt, alloc, servers, disk, keeper, source, sink, gate),
+        Command::Callers => call_lanes(rt, alloc, disk, keeper, source, sink, gate),
         _ => manage(alloc, command, disk, keeper, source, sink),
     }
 }
@@ -207,6 +216,31 @@ fn run_lanes<
         (W.faults sink.new) result.status }
 {
     let (outcome, disk, keeper) = run_script(rt, alloc, servers, disk, keeper, source, gate);
+    fault_law();
+    let status = put_outcome(alloc, sink, outcome);
+    Ended {
+        status,
+        disk,
+        keeper,
+    }
+}
+
+// Runs a script by callers, and puts what it tells into the sink.
+fn call_lanes<
+    H: Threads + Wait + Sync,
+    D: Disk + Send,
+    K: Keeper,
+    S: Source,
+    W: Sink,
+    G: Gate + Sync,
+>(rt: &H, alloc: Global, disk: D, keeper: K, source: &mut S, sink: &mut W, gate: &G) -> Ended<D, K>
+    ensures { let call = call_of (source_view S.left S.gave S.ended S.faults)
+        (disk_view D.stated D.content D.moment D.left_since D.faults)
+        (keeper_view K.kept K.moment K.left_since K.faults) source.old source.new disk result.disk keeper result.keeper
+        in TellsCommand Callers call (W.contents sink.old) (W.contents sink.new) (W.faults sink.old)
+        (W.faults sink.new) result.status }
+{
+    let (outcome, disk, keeper) = call_script(rt, alloc, disk, keeper, source, gate);
     fault_law();
     let status = put_outcome(alloc, sink, outcome);
     Ended {
@@ -274,7 +308,7 @@ fn obey<D: Disk, K: Keeper, S: Source>(
 {
     match command {
         Command::Play(number) => play_script(alloc, number, disk, keeper, source),
-        Command::Run(_) => unreachable!(),
+        Command::Run(_) | Command::Callers => unreachable!(),
         Command::Restore(limit) => {
             let answer = restore_image(alloc, &mut disk, limit);
             (outcome_of(answer), disk, keeper)
