@@ -1,6 +1,4 @@
 // The top call.
-ghost use Rattle.std.specs.Prelude.{◌≡◌, ◌≤◌};
-ghost use Rattle.bow_words.specs.declared.commands.Command.TheVariants.{Callers, Run};
 ghost use Rattle.bow_tool.specs.Tellings.{refusal_of_words};
 ghost use Rattle.bow_tool.specs.Outside.{call_of, disk_view, keeper_view, source_view};
 ghost use Rattle.bow_tool.specs.Commands.{IsInRange, IsManaged, IsOutcome, IsOutcomePut, IsPut, IsRefusalPut, TellsCommand, TellsWords};
@@ -183,70 +181,36 @@ fn serve<H: Threads + Wait + Sync, D: Disk + Send, K: Keeper, S: Source, W: Sink
         in TellsCommand command call (W.contents sink.old) (W.contents sink.new) (W.faults sink.old)
         (W.faults sink.new) result.status }
 {
-    match command {
-        Command::Run(servers) => run_lanes(rt, alloc, servers, disk, keeper, source, sink, gate),
-        Command::Callers => call_lanes(rt, alloc, disk, keeper, source, sink, gate),
-        _ => manage(alloc, command, disk, keeper, source, sink),
+    let (outcome, disk, keeper) = obey_with(rt, alloc, command, disk, keeper, source, gate);
+    fault_law();
+    let status = put_outcome(alloc, sink, outcome);
+    Ended {
+        status,
+        disk,
+        keeper,
     }
 }
 
-// Runs a script by threads, and puts what it tells into the sink.
-fn run_lanes<
-    H: Threads + Wait + Sync,
-    D: Disk + Send,
-    K: Keeper,
-    S: Source,
-    W: Sink,
-    G: Gate + Sync,
->(
+// Does what a command asks for, by threads where it wants them, and gives the text to put.
+fn obey_with<H: Threads + Wait + Sync, D: Disk + Send, K: Keeper, S: Source, G: Gate + Sync>(
     rt: &H,
     alloc: Global,
-    servers: u32,
+    command: Command,
     disk: D,
     keeper: K,
     source: &mut S,
-    sink: &mut W,
     gate: &G,
-) -> Ended<D, K>
-    requires servers { (1 ≤ servers) × (servers ≤ 8) }
+) -> (Outcome, D, K)
+    requires { IsInRange command }
     ensures { let call = call_of (source_view S.left S.gave S.ended S.faults)
         (disk_view D.stated D.content D.moment D.left_since D.faults)
-        (keeper_view K.kept K.moment K.left_since K.faults) source.old source.new disk result.disk keeper result.keeper
-        in TellsCommand (Run servers) call (W.contents sink.old) (W.contents sink.new) (W.faults sink.old)
-        (W.faults sink.new) result.status }
+        (keeper_view K.kept K.moment K.left_since K.faults) source.old source.new disk result.1 keeper result.2
+        in IsOutcome command call result.0 }
 {
-    let (outcome, disk, keeper) = run_script(rt, alloc, servers, disk, keeper, source, gate);
-    fault_law();
-    let status = put_outcome(alloc, sink, outcome);
-    Ended {
-        status,
-        disk,
-        keeper,
-    }
-}
-
-// Runs a script by callers, and puts what it tells into the sink.
-fn call_lanes<
-    H: Threads + Wait + Sync,
-    D: Disk + Send,
-    K: Keeper,
-    S: Source,
-    W: Sink,
-    G: Gate + Sync,
->(rt: &H, alloc: Global, disk: D, keeper: K, source: &mut S, sink: &mut W, gate: &G) -> Ended<D, K>
-    ensures { let call = call_of (source_view S.left S.gave S.ended S.faults)
-        (disk_view D.stated D.content D.moment D.left_since D.faults)
-        (keeper_view K.kept K.moment K.left_since K.faults) source.old source.new disk result.disk keeper result.keeper
-        in TellsCommand Callers call (W.contents sink.old) (W.contents sink.new) (W.faults sink.old)
-        (W.faults sink.new) result.status }
-{
-    let (outcome, disk, keeper) = call_script(rt, alloc, disk, keeper, source, gate);
-    fault_law();
-    let status = put_outcome(alloc, sink, outcome);
-    Ended {
-        status,
-        disk,
-        keeper,
+    match command {
+        Command::Run(servers) => run_script(rt, alloc, servers, disk, keeper, source, gate),
+        Command::Callers => call_script(rt, alloc, disk, keeper, source, gate),
+        _ => obey(alloc, command, disk, keeper, source),
     }
 }
 
