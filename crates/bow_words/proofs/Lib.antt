@@ -1,6 +1,7 @@
 -- Lemmas of the proofs.
 mod Naming
 mod Numbers
+mod Pairing
 mod Plainly
 mod Positionals
 mod Reading

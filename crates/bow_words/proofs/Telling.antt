@@ -13,7 +13,7 @@ some_same : {x y : Text} → Some x ≡ Some y → x ≡ y
 some_same is = cc
 
 -- a word spells one number
-spells_one : (least most m n : ℕ) (word : Option Text) → most < 2 ^ 64 → SpellsIn least most word m
+pub spells_one : (least most m n : ℕ) (word : Option Text) → most < 2 ^ 64 → SpellsIn least most word m
     → SpellsIn least most word n → m ≡ n
 spells_one least most m n word small p q =
     let first : m < 2 ^ 64 = omega (arith, small, p.1) in

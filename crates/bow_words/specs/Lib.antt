@@ -1,3 +1,4 @@
 pub mod Names
+pub mod PairWords
 pub mod Plain
 pub mod Words

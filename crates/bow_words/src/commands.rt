@@ -108,7 +108,8 @@ fn bare(alloc: Global, own: &[String], command: Command) -> Result<Command, Word
     Ok(command)
 }
 
-fn is_block_size(word: &str) -> bool
+// Whether a word is a size that a block may have.
+pub(crate) fn is_block_size(word: &str) -> bool
     ensures { IsTrue result ↔ IsBlockWord word.now }
 {
     word == "512" || word == "1024" || word == "2048" || word == "4096"
