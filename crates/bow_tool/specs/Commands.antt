@@ -14,7 +14,7 @@ use Rattle.bow_restore.specs.Forwarding.{named_by}
 use Rattle.vold_commands.specs.Attempts.{marked, aborted, needs_checkpoint, needs_rollback, most_retries}
 use Rattle.bow_restore.specs.Limits.{IsLimit}
 use Rattle.bow_words.specs.declared.commands.Command.{Command}
-use Rattle.bow_words.specs.declared.commands.Command.TheVariants.{Play, Run, Restore, Check, Forward, Start, Mark, NeedsCheckpoint, NeedsRollback, Abort, Boot, Drill, Past}
+use Rattle.bow_words.specs.declared.commands.Command.TheVariants.{Play, Run, Restore, Check, Forward, Start, Mark, NeedsCheckpoint, NeedsRollback, Abort, Boot, Drill, Past, Callers}
 use Rattle.bow_words.specs.Words.{Asks}
 use Rattle.bow_tool.specs.declared.outcomes.Outcome.{Outcome}
 use Rattle.bow_tool.specs.declared.outcomes.Outcome.TheVariants as outcome

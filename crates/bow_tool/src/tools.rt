@@ -1,4 +1,5 @@
 // The top call.
+ghost use Rattle.std.specs.Prelude.{◌≡◌};
 ghost use Rattle.bow_tool.specs.Tellings.{refusal_of_words};
 ghost use Rattle.bow_tool.specs.Outside.{call_of, disk_view, keeper_view, source_view};
 ghost use Rattle.bow_tool.specs.Commands.{IsInRange, IsManaged, IsOutcome, IsOutcomePut, IsPut, IsRefusalPut, TellsCommand, TellsWords};
