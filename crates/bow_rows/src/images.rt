@@ -6,10 +6,10 @@ use bow_units::{Geometry, fill_pattern};
 use std::alloc::Global;
 use std::test::Fail;
 
-/// So many blocks, up to 64, each of which holds its own pattern with seed 0.
+/// So many blocks, up to 1,024, each of which holds its own pattern with seed 0.
 pub(crate) fn patterns(alloc: Global, blocks: usize) -> Result<Vec<u8>, Fail> {
     let mut image = Vec::new(alloc);
-    for block in 0..blocks.min(64) {
+    for block in 0..blocks.min(1024) {
         let mut bytes = [0u8; 512];
         fill_pattern(block as u64, 0, &mut bytes);
         image.extend_from_slice(&bytes)?;

@@ -11,6 +11,8 @@ mod chains;
 #[cfg(test)]
 mod device;
 #[cfg(test)]
+mod drills;
+#[cfg(test)]
 mod faults;
 #[cfg(test)]
 mod images;

@@ -141,14 +141,14 @@ pub(crate) fn run<H: Threads + Wait + Sync>(
 
 /// Whether block `at` holds the pattern of its number with this seed.
 pub(crate) fn holds(image: &[u8], at: usize, seed: u32) -> bool {
-    at < 64
+    at < 1024
         && at * 512 + 512 <= image.len()
         && pattern_of(&image[at * 512..at * 512 + 512]) == Some((at as u32, seed))
 }
 
 /// Whether each block below this one holds its own pattern with seed 0.
 pub(crate) fn is_back(image: &[u8], blocks: usize) -> bool {
-    for block in 0..blocks.min(64) {
+    for block in 0..blocks.min(1024) {
         if !holds(image, block, 0) {
             return false;
         }
