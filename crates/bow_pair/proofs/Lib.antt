@@ -8,3 +8,8 @@ pub mod Commits
 pub mod Loops
 pub mod Decisions
 pub mod InTheEnd
+pub mod Firsts
+pub mod Rows
+pub mod Sessions
+pub mod Joins
+pub mod Played

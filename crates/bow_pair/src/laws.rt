@@ -1,6 +1,7 @@
 // What boots of several devices, cut and begun again, make of them, and of a decision before.
 ghost use Rattle.bow_pair.specs.BootLaws.{BootsSettle, CutsStayAgreed};
 ghost use Rattle.bow_pair.specs.Laws.{DecisionsSettle, MembersTakePart};
+ghost use Rattle.bow_pair.specs.SessionLaws.{SessionsAreComplete, SessionsLead, SessionsTakePart};
 
 use bow_disk::Disk;
 
@@ -12,6 +13,17 @@ use bow_disk::Disk;
 pub fn pair_boots_law()
     ensures agreed { CutsStayAgreed }
     ensures settles { BootsSettle }
+{}
+
+/// What the sessions of several devices come to, of each device. It does nothing.
+///
+/// - `complete`: what a session leaves is of its script, and its journal is complete.
+/// - `lead`: one that told no fault leads on from a state to another, and its journal is legal on the way.
+/// - `take_part`: the device takes part in a decision with that state, flushed.
+pub fn pair_sessions_law<D: Disk>()
+    ensures complete { SessionsAreComplete D.stated D.content D.moment D.left_since D.faults }
+    ensures lead { SessionsLead D.stated D.content D.moment D.left_since D.faults }
+    ensures take_part { SessionsTakePart D.content }
 {}
 
 /// Decide over several devices, each in its checkpoint, cut anywhere, and then cut boots as often as may be, each

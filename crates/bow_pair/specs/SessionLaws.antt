@@ -1,0 +1,40 @@
+-- What the sessions of a pair come to, of each device.
+use Rattle.std.specs.Prelude.{◌≡◌, ℕ, List, Option}
+use Rattle.std.specs.List.{sum_by}
+use Rattle.bow_units.specs.declared.sizes.Geometry.{Geometry}
+use Rattle.bow_disk.specs.Disk.{Content}
+use Rattle.bow_flat.specs.Flat.{Flat, after}
+use Rattle.bow_flat.specs.Flat.Event.{Flushes}
+use Rattle.bow_core.specs.Further.{LedIn}
+use Rattle.bow_core.specs.Standing.{StandsIn}
+use Rattle.bow_core.specs.Views.{View}
+use Rattle.bow_script.specs.declared.scripts.Line.{Line}
+use Rattle.bow_history.specs.Complete.{IsComplete}
+use Rattle.bow_history.specs.Promises.{faults_in}
+use Rattle.bow_session.specs.Leads.{MayBeginAnew}
+use Rattle.bow_session.specs.Parts.{Account, plan_at}
+use Rattle.bow_pair.specs.Deciding.{TakesPart}
+use Rattle.bow_pair.specs.Playing.{HasPlayed, LeadsTo}
+
+module _ {D : Type 0} (stated : D → Option Geometry) (content : D → Option Content) (moment : D → ℕ)
+    (left : D → ℕ → List (List ℕ) → Type 0) (faults : D → ℕ) where
+  -- what a session leaves is of its script, and its journal is complete
+  abbrev pub SessionsAreComplete : Type 0
+  SessionsAreComplete = (script : List (List (List Line))) (v w : View D) (a : Account)
+      → HasPlayed stated content moment left faults script v w a
+      → (a.script ≡ script) × (a.sizes ≡ v.geometry) × (w.geometry ≡ v.geometry) × IsComplete (plan_at a) a.journal
+
+  -- One that told no fault leads on: over a device that stood for a state and was led for it, its journal is legal from
+  -- there to a place, and for the state of that place the device stands and is led.
+  abbrev pub SessionsLead : Type 0
+  SessionsLead = (script : List (List (List Line))) (v w : View D) (a : Account) (f : Flat)
+      → HasPlayed stated content moment left faults script v w a → MayBeginAnew v → sum_by faults_in a.journal ≡ 0
+      → StandsIn content v f → LedIn content v f → LeadsTo content f w a
+
+-- A device takes part in a decision with the state to which its session leads, flushed.
+abbrev pub SessionsTakePart : {D : Type 0} → (D → Option Content) → Type 0
+SessionsTakePart {D} content = (v : View D) (a : Account) (f : Flat) → (k : LeadsTo content f v a)
+    → TakesPart content v (record {
+      sizes = v.geometry;
+      state = after v.geometry.blocks Flushes k.place.flat;
+    })
