@@ -12,4 +12,5 @@ pub mod Firsts
 pub mod Rows
 pub mod Sessions
 pub mod Joins
+pub mod Together
 pub mod Played

@@ -102,7 +102,7 @@ module _ {D : Type 0} (stated : D → Option Geometry) (content : D → Option C
       subst (λ (x : View D). x.admitted ≤ v.admitted + 2097152) k.device (omega (arith, few, bound))
 
   -- another session may begin where it ended prepared
-  anew_after : (script : List (List (List Line))) (v w : View D) (a : Account) → Played script v w a → EndsPrepared w a → MayBeginAnew w
+  pub anew_after : (script : List (List (List Line))) (v w : View D) (a : Account) → Played script v w a → EndsPrepared w a → MayBeginAnew w
   anew_after script v w a k prepared =
       let P = λ (b : Account). IsPrepared (plan_at b) b.journal in
       let p : P a = subst (IsPrepared (plan_at a)) (sym (prepared.1).2) (ends_prepared (plan_at a) (prepared.1).0 (prepared.1).1 (prepared.1).3) in

@@ -39,3 +39,8 @@ get_dropped (x ∷ xs) (suc n) (suc k) high = let less : k - n ≡ suc k - suc n
 pub there_too : {A B : Type 0} (xs : List A) (ys : List B) (k : ℕ) (x : A) → length ys ≡ length xs → slice_get xs k ≡ Some x → (y : B) × (slice_get ys k ≡ Some y)
 there_too xs [] k x long at = absurd (let low = slice_get_within xs k x at in omega (arith, low, long))
 there_too xs (y ∷ ys) k x long at = (get_or (y ∷ ys) k y, slice_get-get_or (y ∷ ys) k y (let low = slice_get_within xs k x at in omega (arith, low, long)))
+
+-- the element of a number
+pub element_at : {A : Type 0} (xs : List A) (k : ℕ) → k < length xs → (x : A) × (slice_get xs k ≡ Some x)
+element_at [] k low = absurd (omega (arith, low))
+element_at (x ∷ xs) k low = (get_or (x ∷ xs) k x, slice_get-get_or (x ∷ xs) k x low)

@@ -7,6 +7,7 @@ pub mod Ending
 pub mod Joining
 pub mod Joint
 pub mod Laws
+pub mod PairLaws
 pub mod Pairs
 pub mod Playing
 pub mod Preparing

@@ -1,6 +1,7 @@
 // What boots of several devices, cut and begun again, make of them, and of a decision before.
 ghost use Rattle.bow_pair.specs.BootLaws.{BootsSettle, CutsStayAgreed};
 ghost use Rattle.bow_pair.specs.Laws.{DecisionsSettle, MembersTakePart};
+ghost use Rattle.bow_pair.specs.PairLaws.{PairsEndTogether};
 ghost use Rattle.bow_pair.specs.SessionLaws.{SessionsAreComplete, SessionsLead, SessionsTakePart};
 
 use bow_disk::Disk;
@@ -24,6 +25,16 @@ pub fn pair_sessions_law<D: Disk>()
     ensures complete { SessionsAreComplete D.stated D.content D.moment D.left_since D.faults }
     ensures lead { SessionsLead D.stated D.content D.moment D.left_since D.faults }
     ensures take_part { SessionsTakePart D.content }
+{}
+
+/// Devices that are opened on several disks, prepared and run, as `Pair` does it, and decided over; cut anywhere since
+/// they have run, and then boots, as often as may be, each cut anywhere: the first boot that ends well leaves all of
+/// them with their committed data, or all with their checkpoint in place. It does nothing.
+///
+/// Before the decision it is the checkpoint; once it is decided, what the answer says, as in `pair_law`. What is
+/// committed, and what was saved, is what the journals of both sessions say, the second from where the first one leads.
+pub fn pair_runs_law<D: Disk>()
+    ensures { PairsEndTogether D.stated D.content D.moment D.left_since D.faults }
 {}
 
 /// Decide over several devices, each in its checkpoint, cut anywhere, and then cut boots as often as may be, each

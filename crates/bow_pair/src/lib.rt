@@ -15,5 +15,5 @@ mod settling;
 pub use boots::{PairBootFault, PairBooted, pair_boot};
 pub use deciding::{Decided, decide};
 pub use joining::PairFault;
-pub use laws::{pair_boots_law, pair_law, pair_sessions_law};
+pub use laws::{pair_boots_law, pair_law, pair_runs_law, pair_sessions_law};
 pub use pairs::{Pair, Prepared, Ran};
