@@ -9,4 +9,4 @@ mod streams;
 
 pub use commits::has_committed;
 pub use faults::PlayFault;
-pub use plays::{load, open, play};
+pub use plays::{load, open, play, take_script};

@@ -138,8 +138,16 @@ pub fn open<D: Disk, R: Ranges + Drop, S: Source>(
     }
 }
 
-// Reads the script that the source gives.
-fn take_script<S: Source>(alloc: Global, source: &mut S) -> Result<Script, PlayFault>
+/// Reads a script from the source, as `play` does. It is within its limits.
+///
+/// | Fault | Comes |
+/// |---|---|
+/// | `SourceFault` | only where a call of the source failed |
+/// | `BadScript(n)` | exactly where the source gave no script, n being its first line at fault |
+/// | `NoMemory` | for want of memory, in place of any other |
+///
+/// There is no other fault.
+pub fn take_script<S: Source>(alloc: Global, source: &mut S) -> Result<Script, PlayFault>
     ensures given { IfOk result (λ script. GaveScript (taken_from S.left S.gave S.ended source.old source.new)
         script) }
     ensures limits { IfOk result (λ script. IsWithinLimits script) }
