@@ -107,6 +107,9 @@ module _ (g : Geometry) (m : Memory) (b : Batch) (s : MemoryIsSound g m) (held :
     | inr (inr last) ↦ subst (Row job done) (sym (flush_at last)) (late_slots job done (omega (arith, last)))
   ]
 
+  pub row_of : (act : Act) → next_act b.progress ≡ act → Row job done act
+  row_of act is = subst (Row job done) is act_row
+
   pub not_over : next_act b.progress ≢ End
   not_over over = subst (Row job done) over act_row
 

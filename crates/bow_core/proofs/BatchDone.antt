@@ -126,6 +126,13 @@ module _ {D : Type 0} (stated : D → Option Geometry) (content : D → Option C
       → Makes stated content moment left faults g (call_in_hand g m (Batching b)) reply old new before now
   made_act act reply is made = subst (λ a. Makes stated content moment left faults g (Some (call_of_act g m b a)) reply old new before now) (sym is) made
 
+  -- the call in hand, by what it replied
+  made_in_hand : (act : Act) → next_act b.progress ≡ act → (reply known : Reply) → reply ≡ known → Makes stated content moment left faults g (Some (call_of_act g m b act)) reply old new before now
+      → Makes stated content moment left faults g (call_in_hand g m m.hand) known old new before now
+  made_in_hand act is reply known same made =
+      subst (λ h. Makes stated content moment left faults g (call_in_hand g m h) known old new before now) (sym held)
+      (made_act act known is (subst (λ r. Makes stated content moment left faults g (Some (call_of_act g m b act)) r old new before now) same made))
+
   -- a read, which fills a slot
   pub read_done : {T E : Type 0} (result : Result T E) (x : T) → result ≡ Ok x → (block slot : ℕ) (v : List ℕ) → next_act b.progress ≡ Read block slot → after_act b.progress true ≡ Going
       → Makes stated content moment left faults g (Some (ReadCall block)) (read_reply result v) old new before now
@@ -137,28 +144,29 @@ module _ {D : Type 0} (stated : D → Option Geometry) (content : D → Option C
 
   -- another act, by the memory that follows
   pub act_goes : (act : Act) → next_act b.progress ≡ act → (after : Memory) → after ≡ batch_after m b Succeeded (after_act b.progress true) → (tells : Inside) → told_of tells ≡ Moved
-      → Makes stated content moment left faults g (Some (call_of_act g m b act)) Succeeded old new before now
+      → (reply : Reply) → reply ≡ Succeeded → Makes stated content moment left faults g (Some (call_of_act g m b act)) reply old new before now
       → IsDone stated content moment left faults g m (Acts m) tells after old new before now
-  act_goes act is after leads tells told made =
+  act_goes act is after leads tells told reply goes made =
       let e : act_step g unknown m m.hand Succeeded ≡ moved (batch_after m b Succeeded (after_act b.progress true)) [] = ap (λ h. act_step g unknown m h Succeeded) held in
       record {
         reply = Succeeded;
-        made = subst (λ h. Makes stated content moment left faults g (call_in_hand g m h) Succeeded old new before now) (sym held) (made_act act Succeeded is made);
+        made = made_in_hand act is reply Succeeded goes made;
         memory = leads ∙ sym (ap (λ (s : Step). s.memory) e);
         told = told ∙ sym (ap (λ (s : Step). s.told) e);
       }
 
-  -- an act that failed
-  pub act_fails : (act : Act) → next_act b.progress ≡ act → (rest : Memory) → batch_after m b Failed (after_act b.progress false) ≡ rest → (tells : Inside) (after : Memory)
-      → told_of tells ≡ (answered_for rest (request_of b.ticket m.requests) fault_after (λ r. [])).told → after ≡ (answered_for rest (request_of b.ticket m.requests) fault_after (λ r. [])).memory
-      → Makes stated content moment left faults g (Some (call_of_act g m b act)) Failed old new before now
+  -- an act that failed, for the write of this ticket
+  pub act_fails : (ticket : Ticket) → b.ticket ≡ ticket → (act : Act) → next_act b.progress ≡ act → (rest : Memory) → batch_after m b Failed (after_act b.progress false) ≡ rest → (tells : Inside) (after : Memory)
+      → told_of tells ≡ (answered_for rest (request_of ticket m.requests) fault_after (λ r. [])).told → after ≡ (answered_for rest (request_of ticket m.requests) fault_after (λ r. [])).memory
+      → (reply : Reply) → reply ≡ Failed → Makes stated content moment left faults g (Some (call_of_act g m b act)) reply old new before now
       → IsDone stated content moment left faults g m (Acts m) tells after old new before now
-  act_fails act is rest leads tells after told memory made =
+  act_fails ticket own act is rest leads tells after told memory reply fails made =
       let found = request_of b.ticket m.requests in
+      let fault : Ticket → Step = λ t. answered_for rest (request_of t m.requests) fault_after (λ r. []) in
       let e : act_step g unknown m m.hand Failed ≡ answered_for rest found fault_after (fault_events g) = ap (λ h. act_step g unknown m h Failed) held ∙ ap (λ (n : Memory). answered_for n found fault_after (fault_events g)) leads in
       record {
         reply = Failed;
-        made = subst (λ h. Makes stated content moment left faults g (call_in_hand g m h) Failed old new before now) (sym held) (made_act act Failed is made);
-        memory = memory ∙ fault_memory rest found (fault_events g) ∙ sym (ap (λ (s : Step). s.memory) e);
-        told = told ∙ fault_told rest found (fault_events g) ∙ sym (ap (λ (s : Step). s.told) e);
+        made = made_in_hand act is reply Failed fails made;
+        memory = memory ∙ ap (λ t. (fault t).memory) (sym own) ∙ fault_memory rest found (fault_events g) ∙ sym (ap (λ (s : Step). s.memory) e);
+        told = told ∙ ap (λ t. (fault t).told) (sym own) ∙ fault_told rest found (fault_events g) ∙ sym (ap (λ (s : Step). s.told) e);
       }

@@ -1,13 +1,13 @@
-use Rattle.std.proofs.Common.{subst}
+use Rattle.bow_copy.specs.declared.jobs.Act.TheVariants.{Flush}
 use Rattle.bow_core.specs.Batches.{batch_in_hand}
-use Rattle.bow_core.proofs.ActRows.{Row, act_row, still_picked}
+use Rattle.bow_core.proofs.ActRows.{row_of, still_picked}
 use Rattle.bow_core.proofs.batches.flush_batch.Goals as goal
 
 pub act_done-requires-clause-same : goal.act_done-requires-clause-same
 act_done-requires-clause-same g c =
     let m = c.args.state.now.memory in
     let b = batch_in_hand m.hand in
-    subst (Row b.progress.job b.progress.done) c.requires.act (act_row c.args.state.now.geometry m b c.requires.order.sound c.requires.held)
+    row_of c.args.state.now.geometry m b c.requires.order.sound c.requires.held Flush c.requires.act
 
 pub fail-requires-clause-picked : goal.fail-requires-clause-picked
 fail-requires-clause-picked g c =

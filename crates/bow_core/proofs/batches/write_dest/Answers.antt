@@ -1,19 +1,14 @@
-use Rattle.std.proofs.Common.{◌+◌, ◌*◌, ◌≤◌, ap, sym, subst, ◌∙◌, arith, rules}
-use Rattle.std.proofs.Math.Nat.{mul-le-mul_right}
+use Rattle.std.proofs.Common.{ap, refl, sym, subst, ◌∙◌, rules}
 use Rattle.bow_disk.specs.Disk.{HasBlock}
-use Rattle.bow_core.specs.Batches.{batch_in_hand}
-use Rattle.bow_core.specs.Held.{Held}
-use Rattle.bow_core.proofs.ActRows.{Row, act_row, still_picked, write_on}
-use Rattle.std.specs.Prelude.{slice_index_or, Some, []}
 use Rattle.bow_copy.specs.Acts.{is_write_log}
 use Rattle.bow_copy.specs.declared.jobs.Act.TheVariants.{Write}
-use Rattle.bow_machine.specs.Calls.{WriteCall}
-use Rattle.bow_machine.specs.Requests.{request_of}
-use Rattle.bow_machine.specs.Steps.{answered_for, fault_after, is_log_write}
-use Rattle.bow_core.specs.Batches.{let_go}
+use Rattle.bow_machine.specs.Steps.{is_log_write}
+use Rattle.bow_core.specs.Batches.{batch_in_hand, let_go}
 use Rattle.bow_core.specs.Calls.{reply_of}
-use Rattle.bow_core.specs.Ports.{Makes}
-use Rattle.bow_core.proofs.BatchDone.{act_goes, act_fails, gone_on_is, let_go_is, slot_held}
+use Rattle.bow_core.specs.Held.{Held}
+use Rattle.bow_core.proofs.ActRows.{row_of, still_picked, write_on}
+use Rattle.bow_core.proofs.BatchDone.{act_goes, act_fails, gone_on_is, let_go_is}
+use Rattle.bow_core.proofs.SlotActs.{slot_given, slot_room}
 use Rattle.bow_core.proofs.batches.write_dest.Goals as goal
 
 pub write_slot-requires-clause-on : goal.write_slot-requires-clause-on
@@ -23,25 +18,19 @@ write_slot-requires-clause-on g c =
 
 pub write_slot-requires-clause-few : goal.write_slot-requires-clause-few
 write_slot-requires-clause-few g c =
-    let m = c.args.state.now.memory in
-    let b = batch_in_hand m.hand in
-    (subst (Row b.progress.job b.progress.done) c.requires.act (act_row c.args.state.now.geometry m b c.requires.order.sound c.requires.held)).2
+    let s = c.args.state.now in
+    (row_of s.geometry s.memory (batch_in_hand s.memory.hand) c.requires.order.sound c.requires.held (Write c.args.block c.args.slot) c.requires.act).2
 
 pub write_slot-requires-clause-room : goal.write_slot-requires-clause-room
 write_slot-requires-clause-room g c =
-    let m = c.args.state.now.memory in
-    let b = batch_in_hand m.hand in
-    let few = (subst (Row b.progress.job b.progress.done) c.requires.act (act_row c.args.state.now.geometry m b c.requires.order.sound c.requires.held)).2 in
-    let size = c.size-size.ensures.size ∙ ap (λ (h : Held). h.geometry.block_size) (sym c.state.view_is) in
-    let wide : (c.args.slot + 1) * c.size-size.result ≤ 8 * c.size-size.result = mul-le-mul_right c.size-size.result (omega (arith, few)) in
-    let same = ap (λ n. 8 * n) size in
-    omega (arith, wide, same, c.state.invariant.eight)
+    let s = c.args.state.now in
+    let row = row_of s.geometry s.memory (batch_in_hand s.memory.hand) c.requires.order.sound c.requires.held (Write c.args.block c.args.slot) c.requires.act in
+    slot_room s _ c.state.view_is c.size-size.result c.size-size.ensures.size c.args.slot _ row.2 c.state.invariant.eight
 
 pub act_done-requires-clause-same : goal.act_done-requires-clause-same
 act_done-requires-clause-same g c =
-    let m = c.args.state.now.memory in
-    let b = batch_in_hand m.hand in
-    (subst (Row b.progress.job b.progress.done) c.requires.act (act_row c.args.state.now.geometry m b c.requires.order.sound c.requires.held)).1
+    let s = c.args.state.now in
+    (row_of s.geometry s.memory (batch_in_hand s.memory.hand) c.requires.order.sound c.requires.held (Write c.args.block c.args.slot) c.requires.act).1
 
 pub fail-requires-clause-picked : goal.fail-requires-clause-picked
 fail-requires-clause-picked g c =
@@ -54,15 +43,11 @@ returns-in-Ok g c = record {
       let s = c.args.state.now in
       let m = s.memory in
       let b = batch_in_hand m.hand in
-      let i = c.state.inside in
-      let size = c.size-size.ensures.size ∙ ap (λ (h : Held). h.geometry.block_size) (sym c.state.view_is) in
-      let row = subst (Row b.progress.job b.progress.done) c.requires.act (act_row s.geometry m b c.requires.order.sound c.requires.held) in
-      let content = slot_held i.geometry.block_size i.buffer.items i.hand m.hand (ap (λ (h : Held). h.memory.hand) c.state.view_is) c.requires.held c.args.slot row.0 c.size-size.result size in
-      let made = subst (λ v. Makes g.D.Disk.stated g.D.Disk.content g.D.Disk.moment g.D.Disk.left_since g.D.Disk.faults s.geometry (Some (WriteCall c.args.block v)) (reply_of c.write_slot.result) c.args.port.now.disk c.write_slot.new.port.disk c.args.port.now.calls c.write_slot.new.port.calls) content
-      (c.write_slot.ensures s.geometry c.requires.order.sizes) in
+      let made = slot_given s _ c.state.view_is c.size-size.result c.size-size.ensures.size c.requires.order.sound c.requires.held c.args.block c.args.slot g.D.Disk.stated g.D.Disk.content g.D.Disk.moment g.D.Disk.left_since g.D.Disk.faults c.args.port.now.disk c.write_slot.new.port.disk c.args.port.now.calls c.write_slot.new.port.calls (reply_of c.write_slot.result)
+      c.requires.act c.state.inside.buffer.items c.state.inside.hand refl (c.write_slot.ensures s.geometry c.requires.order.sizes) in
       act_goes g.D.Disk.stated g.D.Disk.content g.D.Disk.moment g.D.Disk.left_since g.D.Disk.faults s.geometry m c.args.port.now.disk c.write_slot.new.port.disk c.args.port.now.calls c.write_slot.new.port.calls b c.requires.held (Write c.args.block c.args.slot) c.requires.act
       c.act_done.new.self.memory (ap (λ (h : Held). h.memory) c.act_done.ensures.memory ∙ sym (gone_on_is m b (ap is_write_log c.requires.act))) c.act_done.result c.act_done.ensures.told
-      (subst (λ r. Makes g.D.Disk.stated g.D.Disk.content g.D.Disk.moment g.D.Disk.left_since g.D.Disk.faults s.geometry (Some (WriteCall c.args.block (slice_index_or b.slots c.args.slot []))) r c.args.port.now.disk c.write_slot.new.port.disk c.args.port.now.calls c.write_slot.new.port.calls) (ap reply_of c.in-Ok.is) made);
+      (reply_of c.write_slot.result) (ap reply_of c.in-Ok.is) made;
   kept = search rules;
 }
 
@@ -72,16 +57,10 @@ returns-in-Err g c = record {
       let s = c.args.state.now in
       let m = s.memory in
       let b = batch_in_hand m.hand in
-      let i = c.state.inside in
-      let size = c.size-size.ensures.size ∙ ap (λ (h : Held). h.geometry.block_size) (sym c.state.view_is) in
-      let row = subst (Row b.progress.job b.progress.done) c.requires.act (act_row s.geometry m b c.requires.order.sound c.requires.held) in
-      let content = slot_held i.geometry.block_size i.buffer.items i.hand m.hand (ap (λ (h : Held). h.memory.hand) c.state.view_is) c.requires.held c.args.slot row.0 c.size-size.result size in
-      let made = subst (λ v. Makes g.D.Disk.stated g.D.Disk.content g.D.Disk.moment g.D.Disk.left_since g.D.Disk.faults s.geometry (Some (WriteCall c.args.block v)) (reply_of c.write_slot.result) c.args.port.now.disk c.write_slot.new.port.disk c.args.port.now.calls c.write_slot.new.port.calls) content
-      (c.write_slot.ensures s.geometry c.requires.order.sizes) in
-      let for_it = ap (λ t. request_of t m.requests) (sym c.requires.own) in
-      act_fails g.D.Disk.stated g.D.Disk.content g.D.Disk.moment g.D.Disk.left_since g.D.Disk.faults s.geometry m c.args.port.now.disk c.write_slot.new.port.disk c.args.port.now.calls c.write_slot.new.port.calls b c.requires.held (Write c.args.block c.args.slot) c.requires.act
-      (let_go m b) (let_go_is m b (ap is_log_write c.requires.act)) c.fail.result c.fail.new.self.memory
-      (c.fail.ensures.told ∙ ap (λ f. (answered_for (let_go m b) f fault_after (λ r. [])).told) for_it) (ap (λ (h : Held). h.memory) c.fail.ensures.memory ∙ ap (λ f. (answered_for (let_go m b) f fault_after (λ r. [])).memory) for_it)
-      (subst (λ r. Makes g.D.Disk.stated g.D.Disk.content g.D.Disk.moment g.D.Disk.left_since g.D.Disk.faults s.geometry (Some (WriteCall c.args.block (slice_index_or b.slots c.args.slot []))) r c.args.port.now.disk c.write_slot.new.port.disk c.args.port.now.calls c.write_slot.new.port.calls) (ap reply_of c.in-Err.is) made);
+      let made = slot_given s _ c.state.view_is c.size-size.result c.size-size.ensures.size c.requires.order.sound c.requires.held c.args.block c.args.slot g.D.Disk.stated g.D.Disk.content g.D.Disk.moment g.D.Disk.left_since g.D.Disk.faults c.args.port.now.disk c.write_slot.new.port.disk c.args.port.now.calls c.write_slot.new.port.calls (reply_of c.write_slot.result)
+      c.requires.act c.state.inside.buffer.items c.state.inside.hand refl (c.write_slot.ensures s.geometry c.requires.order.sizes) in
+      act_fails g.D.Disk.stated g.D.Disk.content g.D.Disk.moment g.D.Disk.left_since g.D.Disk.faults s.geometry m c.args.port.now.disk c.write_slot.new.port.disk c.args.port.now.calls c.write_slot.new.port.calls b c.requires.held c.args.ticket c.requires.own (Write c.args.block c.args.slot) c.requires.act
+      (let_go m b) (let_go_is m b (ap is_log_write c.requires.act)) c.fail.result c.fail.new.self.memory c.fail.ensures.told (ap (λ (h : Held). h.memory) c.fail.ensures.memory)
+      (reply_of c.write_slot.result) (ap reply_of c.in-Err.is) made;
   kept = search rules;
 }
