@@ -28,7 +28,7 @@ use Rattle.bow_disk.specs.Shapes.{now_image}
 use Rattle.bow_units.specs.Causes.{Rose}
 use Rattle.bow_units.specs.Magics.{HasMagic, IsPlain}
 use Rattle.bow_core.specs.declared.device.OpenFault.TheVariants as faults
-use Rattle.bow_core.specs.Calls.{DoesCall, Counted, HasFault}
+use Rattle.bow_core.specs.Calls.{DoesCall, Counted, HasFault, read_reply, reply_of}
 use Rattle.bow_core.specs.Openings.{KeepsImage, LeftBy, BeginsMagic, SettledBy}
 use Rattle.bow_core.specs.Ports.{Makes}
 
@@ -170,20 +170,27 @@ module _ {D : Type 0} (stated : D → Option Geometry) (content : D → Option C
       cause = made.cause;
     }
 
-    -- both calls were made
-    module _ (a b d : D) (before middle now : ℕ) (reply : Reply) (sizes : stated a ≡ Some g) (first : Makes stated content moment left faults_of g (Some FlushCall) Succeeded a b before middle)
-        (second : Makes stated content moment left faults_of g (Some (ReadCall 0)) reply b d middle now) where
+    -- both calls were made, and the flush was done
+    module _ {A E B F : Type 0} (a b d : D) (before middle now : ℕ) (flushed : Result A E) (y : A) (got : Result B F) (v : List ℕ) (sizes : stated a ≡ Some g) (is_flushed : flushed ≡ Ok y)
+        (flushes : (k : Geometry) → stated a ≡ Some k → Makes stated content moment left faults_of k (Some FlushCall) (reply_of flushed) a b before middle)
+        (reads : (k : Geometry) → stated b ≡ Some k → Makes stated content moment left faults_of k (Some (ReadCall 0)) (read_reply got v) b d middle now) where
+      first : Makes stated content moment left faults_of g (Some FlushCall) Succeeded a b before middle
+      first = subst (λ r. Makes stated content moment left faults_of g (Some FlushCall) r a b before middle) (ap reply_of is_flushed) (flushes g sizes)
+
+      second : Makes stated content moment left faults_of g (Some (ReadCall 0)) (read_reply got v) b d middle now
+      second = reads g first.sizes
+
       kept : KeepsImage stated content moment left faults_of a d
-      kept = keeps_then a b d (keeps_call FlushCall Succeeded a b before middle tt sizes first) (keeps_call (ReadCall 0) reply b d middle now tt first.sizes second)
+      kept = keeps_then a b d (keeps_call FlushCall Succeeded a b before middle tt sizes first) (keeps_call (ReadCall 0) (read_reply got v) b d middle now tt first.sizes second)
 
       ticks : (c : Content) → content a ≡ Some c → Counted 2 (moment a) (moment d)
       ticks c is =
           let told = goes_told content (DoesCall FlushCall Succeeded) a b c is first.disk in
           let one = one_tick FlushCall Succeeded a b before middle c is first in
-          let two = one_tick (ReadCall 0) reply b d middle now told.told told.is second in
+          let two = one_tick (ReadCall 0) (read_reply got v) b d middle now told.told told.is second in
           omega (arith, one, two)
 
-      pub read_failed : reply ≡ Failed → {T : Type 0} → LeftBy {T = T} stated content moment left faults_of g (Err faults.DiskFault) a d
+      pub read_failed : read_reply got v ≡ Failed → {T : Type 0} → LeftBy {T = T} stated content moment left faults_of g (Err faults.DiskFault) a d
       read_failed is = record {
         sizes = second.sizes;
         kept = kept;
@@ -193,8 +200,8 @@ module _ {D : Type 0} (stated : D → Option Geometry) (content : D → Option C
         cause = rose_before (faults_of a) (faults_of b) (faults_of d) first.later (subst (λ r. HasFault (Some (ReadCall 0)) r (faults_of b) (faults_of d)) is second.cause);
       }
 
-      pub magic_found : (v : List ℕ) → reply ≡ Gave v → HasMagic v → {T : Type 0} → LeftBy {T = T} stated content moment left faults_of g (Err faults.NeedsRestore) a d
-      magic_found v is magic = record {
+      pub magic_found : read_reply got v ≡ Gave v → HasMagic v → {T : Type 0} → LeftBy {T = T} stated content moment left faults_of g (Err faults.NeedsRestore) a d
+      magic_found is magic = record {
         sizes = second.sizes;
         kept = kept;
         settled = tt;
@@ -209,8 +216,8 @@ module _ {D : Type 0} (stated : D → Option Geometry) (content : D → Option C
           found (Some c) None goes = absurd goes
           found (Some c) (Some e) goes = subst HasMagic (sym (goes.1) ∙ sym (ap (λ (l : List (List ℕ)). get_or l 0 []) (goes.0).0)) magic
 
-      pub all_settled : (v : List ℕ) → reply ≡ Gave v → (HasMagic v → ⊥) → {T : Type 0} (x : T) → LeftBy stated content moment left faults_of g (Ok x) a d
-      all_settled v is plain x = record {
+      pub all_settled : read_reply got v ≡ Gave v → (HasMagic v → ⊥) → {T : Type 0} (x : T) → LeftBy stated content moment left faults_of g (Ok x) a d
+      all_settled is plain x = record {
         sizes = second.sizes;
         kept = kept;
         settled = go (content a) refl (content b) (content d) first.disk (subst (λ r. Goes (DoesCall (ReadCall 0) r) (content b) (content d)) is second.disk);
