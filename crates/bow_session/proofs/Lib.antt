@@ -4,6 +4,7 @@ pub mod Changed
 pub mod Counted
 pub mod Cutting
 pub mod Ending
+pub mod Entering
 pub mod Filled
 pub mod Found
 pub mod Going
