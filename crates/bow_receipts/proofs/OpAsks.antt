@@ -152,20 +152,6 @@ read_long size ops.Prepare outcome whole within = no_block size
 read_long size ops.Commit outcome whole within = no_block size
 
 module _ (g : Geometry) where
-  -- the op that the device hands back is of the same blocks
-  pub for_first : (ask op : Op) → IsFor g ask op → (extent_of op).first ≡ (extent_of ask).first
-  for_first (ops.Read e p) (ops.Read x q) is = ap (λ y. y.first) is.0
-  for_first (ops.Read e p) (ops.Write x q) is = absurd is
-  for_first (ops.Read e p) (ops.Discard x) is = absurd is
-  for_first (ops.Read e p) ops.Flush is = absurd is
-  for_first (ops.Read e p) ops.Prepare is = absurd is
-  for_first (ops.Read e p) ops.Commit is = absurd is
-  for_first (ops.Write e p) op is = ap (λ o. (extent_of o).first) is
-  for_first (ops.Discard e) op is = ap (λ o. (extent_of o).first) is
-  for_first ops.Flush op is = ap (λ o. (extent_of o).first) is
-  for_first ops.Prepare op is = ap (λ o. (extent_of o).first) is
-  for_first ops.Commit op is = ap (λ o. (extent_of o).first) is
-
   long_read : (e x : Extent) (p q : List ℕ) → FitsSize g.block_size (ops.Read e p) → length q ≡ e.count * g.block_size → length q ≡ length p
   long_read e x p q t long = long ∙ sym t.whole
 

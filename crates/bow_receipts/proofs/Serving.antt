@@ -50,6 +50,7 @@ use Rattle.bow_history.specs.SoundSessions.{IsSoundSession, MayRun}
 use Rattle.bow_history.proofs.Seats.{lane_is}
 use Rattle.bow_history.proofs.Ending.{items_go_down}
 use Rattle.bow_history.proofs.SoundTurns.{beginning_is_sound, turns_keep_sound}
+use Rattle.bow_session.proofs.Admitted.{asked_first}
 use Rattle.bow_session.proofs.Turned.{can_have}
 use Rattle.bow_tags.specs.declared.view.Entry.{Entry}
 use Rattle.bow_tags.specs.declared.view.Held.{Held}
@@ -62,7 +63,7 @@ use Rattle.bow_receipts.specs.Copies.{HasRoomFor, blocks_read}
 use Rattle.bow_receipts.specs.Hands.{IsHeld, IsInHand, hand_at, lane_with, ticket_in, tickets_of}
 use Rattle.bow_receipts.specs.Noted.{IsAnswerable, IsNotable, IsOfHand, IsTurnOf}
 use Rattle.bow_receipts.specs.Served.{IsSeated, Serves, answered_of, count_of, entry_of, held_of, view_under}
-use Rattle.bow_receipts.proofs.OpAsks.{for_first, for_room}
+use Rattle.bow_receipts.proofs.OpAsks.{for_room}
 use Rattle.bow_receipts.proofs.Lists.{clash, filter_found, index_within, last_at, map_length, one_of, over_less, over_most}
 
 -- what was told is of a request that waits
@@ -401,7 +402,7 @@ module _ {D R : Type 0} (stated : D → Option Geometry) (content : D → Option
     valid = sound_memory.sizes
 
     block_small : (t : Ticket) (r : Request) (h : HandOf g given jobs hands t r) (i : ℕ) → (extent_of r.op).first + i < s.core.geometry.blocks → (h.hand).first + i < 2 ^ 64
-    block_small t r h i inside = let a = (h.held_is).first in let b = for_first g (h.held_is).ask r.op h.for_it in let few = valid.few in omega (arith, a, b, few, inside)
+    block_small t r h i inside = let a = (h.held_is).first in let b = asked_first g (h.held_is).ask r.op h.for_it in let few = valid.few in omega (arith, a, b, few, inside)
 
     pub fits_ask : (t : Ticket) (r : Request) (h : HandOf g given jobs hands t r) → FitsSize g.block_size (h.held_is).ask
     fits_ask t r h = (k.kept).fit (lane_with hands t) (answered_of given (lane_with hands t)) (h.held_is).ask (asked_next lanes given jobs (lane_with hands t) (h.held_is).ask (h.held_is).job)

@@ -21,31 +21,14 @@ use Rattle.bow_history.proofs.Sessions.{turns_keep_session}
 use Rattle.bow_history.proofs.DiskCuts.{turns_have_cuts}
 use Rattle.bow_session.specs.Leads.{StaysBelow}
 use Rattle.bow_session.specs.Runs.{begun_over}
-use Rattle.bow_session.proofs.Cutting.{DidTold}
+use Rattle.bow_session.proofs.Cutting.{DidTold, told_after}
+use Rattle.bow_session.proofs.Leading.{no_call, none_fails_push, rose_later, rose_then}
+use Rattle.bow_session.proofs.Running.{did_lists, has_fault}
 use Rattle.bow_receipts.specs.Served.{view_under}
 
 pub push : (plan : Plan) (s : Session) (turns : List Turned) (turn : Turned) → session_after plan s (turns ++ turn ∷ []) ≡ after_turn plan (session_after plan s turns) turn
 push plan s [] turn = refl
 push plan s (t ∷ turns) turn = push plan (after_turn plan s t) turns turn
-
-none_fails_push : (plan : Plan) (s : Session) (turns : List Turned) (turn : Turned) → NoneFails plan s turns
-    → (reply_in turn ≡ Failed → call_in plan (session_after plan s turns) turn ≡ None) → NoneFails plan s (turns ++ turn ∷ [])
-none_fails_push plan s [] turn fine last = (last, tt)
-none_fails_push plan s (t ∷ turns) turn fine last = (fine.0, none_fails_push plan (after_turn plan s t) turns turn fine.1 last)
-
--- where the count did not rise, a call that failed was none
-no_call : (call : Option Call) (reply : Reply) (before now : ℕ) → HasFault call reply before now → StaysBelow before now → reply ≡ Failed → call ≡ None
-no_call None reply before now h low failed = refl
-no_call (Some c) reply before now h low failed = absurd (low (subst (λ r. HasFault (Some c) r before now) failed h))
-
-has_fault : (call : Option Call) (reply : Reply) (before now : ℕ) → HasFault call reply before now → reply ≡ Failed → (c : Call) → call ≡ Some c → Rose before now
-has_fault call reply before now h failed c is = subst (λ r. HasFault (Some c) r before now) failed (subst (λ o. HasFault o reply before now) is h)
-
-rose_later : (first before now : ℕ) → first ≤ before → Rose before now → Rose first now
-rose_later first before now low rose = omega (arith, low, rose)
-
-rose_then : (first before now : ℕ) → before ≤ now → Rose first before → Rose first now
-rose_then first before now low rose = omega (arith, low, rose)
 
 module _ {D : Type 0} (stated : D → Option Geometry) (content : D → Option Content) (moment : D → ℕ) (left : D → ℕ → List (List ℕ) → Type 0) (faults : D → ℕ) where
   -- what a turn's call, if it makes one, did between two devices
@@ -59,40 +42,16 @@ module _ {D : Type 0} (stated : D → Option Geometry) (content : D → Option C
     pub told : (c : Content) → content old.disk ≡ Some c → DidTold content moment left g call reply c old.disk new.disk
 
   module _ (shaped : (d : D) (c : Content) → content d ≡ Some c → (g : Geometry) → stated d ≡ Some g → IsShaped g.block_size g.blocks c) where
-    did_lists : (g : Geometry) (call : Option Call) (reply : Reply) (old new : D) → stated old ≡ Some g → stated new ≡ Some g → IsOnDevice g call → Goes (DoesOne call reply) (content old) (content new)
-        → Did g call reply (option_map disk_of (content old)) (option_map disk_of (content new))
-    did_lists g call reply old new was is on goes = by (content old) refl (content new) refl goes
-      where
-        by : (o : Option Content) → content old ≡ o → (n : Option Content) → content new ≡ n → Goes (DoesOne call reply) o n → Did g call reply (option_map disk_of o) (option_map disk_of n)
-        by None a None b goes = tt
-        by None a (Some d) b goes = absurd goes
-        by (Some c) a None b goes = absurd goes
-        by (Some c) a (Some d) b goes = does_it g c d (shaped old c a g was) (shaped new d b g is) call reply on goes
-
-    told_after : (g : Geometry) (call : Option Call) (reply : Reply) (c : Content) (a b : D) → content a ≡ Some c → stated a ≡ Some g → stated b ≡ Some g → IsOnDevice g call
-        → Goes (DoesOne call reply) (content a) (content b) → Passes (calls_in call) (content b) (moment a) (moment b) (left a) (left b) → DidTold content moment left g call reply c a b
-    told_after g call reply c a b is was now on goes passes = by (content b) refl (subst (λ o. Goes (DoesOne call reply) o (content b)) is goes)
-      where
-        by : (o : Option Content) → content b ≡ o → Goes (DoesOne call reply) (Some c) o → DidTold content moment left g call reply c a b
-        by None at goes = absurd goes
-        by (Some d) at goes = record {
-          told = d;
-          tells = at;
-          listed = (shaped b d at g now).listed;
-          does = does_it g c d (shaped a c is g was) (shaped b d at g now) call reply on goes;
-          passes = passes;
-        }
-
     pub did_step : (g : Geometry) (call : Option Call) (reply : Reply) (old new : View D) → stated old.disk ≡ Some g → IsOnDevice g call
         → Makes stated content moment left faults g call reply old.disk new.disk old.calls new.calls → TurnDid g call reply old new
     did_step g call reply old new sizes on made = record {
       counted = made.counted;
-      did = did_lists g call reply old.disk new.disk sizes made.sizes on made.disk;
+      did = did_lists stated content moment left faults shaped g call reply old.disk new.disk sizes made.sizes on made.disk;
       sizes = made.sizes;
       later = made.later;
       fault = has_fault call reply (faults old.disk) (faults new.disk) made.cause;
       fine = no_call call reply (faults old.disk) (faults new.disk) made.cause;
-      told = λ c is. told_after g call reply c old.disk new.disk is sizes made.sizes on made.disk made.time;
+      told = λ c is. told_after stated content moment left faults shaped g call reply c old.disk new.disk is sizes made.sizes on made.disk made.time;
     }
 
     pub did_nothing : (g : Geometry) (old new : View D) → stated old.disk ≡ Some g → old.calls ≤ 2 ^ 64 - 1 → new.disk ≡ old.disk → new.calls ≡ old.calls → TurnDid g None Succeeded old new
