@@ -93,6 +93,20 @@ sum_set f (z ∷ xs) (suc i) x y here = omega (arith, sum_set f xs i x y here, s
 pub lane_below : (g : Geometry) (script : List (List (List Line))) (st : Session) (lane : ℕ) → is_actor_ready (plan_of g script) st (LaneActor lane) ≡ true → lane < lanes_of script
 lane_below g script st lane ready = ltb-true lane (lanes_of script) (and_parts _ _ ready).0
 
+-- the op that the device gets is of the same blocks
+pub asked_first : (g : Geometry) (wanted op : Op) → IsFor g wanted op → (extent_of op).first ≡ (extent_of wanted).first
+asked_first g (ops.Read e p) (ops.Read x q) is = ap (λ y. y.first) is.0
+asked_first g (ops.Read e p) (ops.Write x q) is = absurd is
+asked_first g (ops.Read e p) (ops.Discard x) is = absurd is
+asked_first g (ops.Read e p) ops.Flush is = absurd is
+asked_first g (ops.Read e p) ops.Prepare is = absurd is
+asked_first g (ops.Read e p) ops.Commit is = absurd is
+asked_first g (ops.Write e p) op is = ap (λ o. (extent_of o).first) is
+asked_first g (ops.Discard e) op is = ap (λ o. (extent_of o).first) is
+asked_first g ops.Flush op is = ap (λ o. (extent_of o).first) is
+asked_first g ops.Prepare op is = ap (λ o. (extent_of o).first) is
+asked_first g ops.Commit op is = ap (λ o. (extent_of o).first) is
+
 module _ (g : Geometry) (script : List (List (List Line))) (m : Memory) (admitted : ℕ) (seats : List Seat) (lane : ℕ) (seat : Seat)
     (sound : IsSoundSession (plan_of g script) (seated (plan_of g script) m admitted (map lane_in seats)))
     (here : slice_get seats lane ≡ Some seat) (ready : is_actor_ready (plan_of g script) (seated (plan_of g script) m admitted (map lane_in seats)) (LaneActor lane) ≡ true)
@@ -217,9 +231,9 @@ module _ (g : Geometry) (script : List (List (List Line))) (m : Memory) (admitte
                   next = wanted_is;
                   askable = askable_op;
                   section = section ∙ (next.0).section;
-                  first = first ∙ asked_first wanted op for_op;
+                  first = first ∙ asked_first g wanted op for_op;
                   lent = lent ∙ lent_for g wanted op for_op;
-                  low = (let from = first ∙ asked_first wanted op for_op in let was = subst (λ w. (extent_of w).first < 2 ^ 32) same_wanted (next.0).low in omega (arith, from, was));
+                  low = (let from = first ∙ asked_first g wanted op for_op in let was = subst (λ w. (extent_of w).first < 2 ^ 32) same_wanted (next.0).low in omega (arith, from, was));
                 },
                 subst (λ ps. AreNext plan lane (suc (length seat.answered.items)) ps) (sym coming) next.1,
               ));
@@ -228,19 +242,6 @@ module _ (g : Geometry) (script : List (List (List Line))) (m : Memory) (admitte
               buffers = subst (λ o. HasBuffers g.block_size (lent_with o) new.buffers.items) (sym has) (subst (λ n. HasBuffers g.block_size n new.buffers.items) (sym (lent ∙ lent_for g wanted op for_op))
                   (lend_fits g wanted seat.buffers.items new.buffers.items (subst (λ o. HasBuffers g.block_size (lent_with o) seat.buffers.items) no_hand f.buffers) lends));
             }
-          where
-            asked_first : (wanted op : Op) → IsFor g wanted op → (extent_of op).first ≡ (extent_of wanted).first
-            asked_first (ops.Read e p) (ops.Read x q) is = ap (λ y. y.first) is.0
-            asked_first (ops.Read e p) (ops.Write x q) is = absurd is
-            asked_first (ops.Read e p) (ops.Discard x) is = absurd is
-            asked_first (ops.Read e p) ops.Flush is = absurd is
-            asked_first (ops.Read e p) ops.Prepare is = absurd is
-            asked_first (ops.Read e p) ops.Commit is = absurd is
-            asked_first (ops.Write e p) op is = ap (λ o. (extent_of o).first) is
-            asked_first (ops.Discard e) op is = ap (λ o. (extent_of o).first) is
-            asked_first ops.Flush op is = ap (λ o. (extent_of o).first) is
-            asked_first ops.Prepare op is = ap (λ o. (extent_of o).first) is
-            asked_first ops.Commit op is = ap (λ o. (extent_of o).first) is
 
         pub fit_after : AreFit plan counts (slice_set seats lane new)
         fit_after other x found = elim (cases_eq other lane) [

@@ -50,7 +50,7 @@ pub record DidTold {D : Type 0} (content : D → Option Content) (moment : D →
 module _ {D : Type 0} (stated : D → Option Geometry) (content : D → Option Content) (moment : D → ℕ) (left : D → ℕ → List (List ℕ) → Type 0) (faults : D → ℕ)
     (shaped : (d : D) (c : Content) → content d ≡ Some c → (g : Geometry) → stated d ≡ Some g → IsShaped g.block_size g.blocks c) where
   -- a call on a disk that told its content
-  told_after : (g : Geometry) (call : Option Call) (reply : Reply) (c : Content) (a b : D) → content a ≡ Some c → stated a ≡ Some g → stated b ≡ Some g → IsOnDevice g call
+  pub told_after : (g : Geometry) (call : Option Call) (reply : Reply) (c : Content) (a b : D) → content a ≡ Some c → stated a ≡ Some g → stated b ≡ Some g → IsOnDevice g call
       → Goes (DoesOne call reply) (content a) (content b) → Passes (calls_in call) (content b) (moment a) (moment b) (left a) (left b) → DidTold content moment left g call reply c a b
   told_after g call reply c a b is was now on goes passes = by (content b) refl (subst (λ o. Goes (DoesOne call reply) o (content b)) is goes)
     where

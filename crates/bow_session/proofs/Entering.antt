@@ -1,5 +1,5 @@
 -- A desk takes the next request of a ready lane in: what its calls want, and the desk that is left.
-use Rattle.std.proofs.Common.{◌≡◌, ℕ, ◌+◌, ◌<◌, List, ◌∷◌, length, Option, Some, None, true, arith, refl, sym, ap, ◌∙◌, subst}
+use Rattle.std.proofs.Common.{◌≡◌, ℕ, ◌+◌, ◌<◌, List, ◌∷◌, length, Option, Some, None, true, arith, sym, ap, ◌∙◌, subst}
 use Rattle.std.specs.Prelude.{get_or, slice_get, slice_set}
 use Rattle.std.specs.Option.{option_map}
 use Rattle.bow_units.specs.declared.sizes.Geometry.{Geometry}

@@ -48,20 +48,20 @@ use Rattle.bow_session.proofs.Taking.{turn_takes}
 -- ----------------------------------------------------------------------------------------------------------------
 -- Calls that fail.
 
-none_fails_push : (plan : Plan) (s : Session) (turns : List Turned) (turn : Turned) → NoneFails plan s turns
+pub none_fails_push : (plan : Plan) (s : Session) (turns : List Turned) (turn : Turned) → NoneFails plan s turns
     → (reply_in turn ≡ Failed → call_in plan (session_after plan s turns) turn ≡ None) → NoneFails plan s (turns ++ turn ∷ [])
 none_fails_push plan s [] turn fine last = (last, tt)
 none_fails_push plan s (t ∷ turns) turn fine last = (fine.0, none_fails_push plan (after_turn plan s t) turns turn fine.1 last)
 
 -- where the count did not rise, a call that failed was none
-no_call : (call : Option Call) (reply : Reply) (before now : ℕ) → HasFault call reply before now → StaysBelow before now → reply ≡ Failed → call ≡ None
+pub no_call : (call : Option Call) (reply : Reply) (before now : ℕ) → HasFault call reply before now → StaysBelow before now → reply ≡ Failed → call ≡ None
 no_call None reply before now h low failed = refl
 no_call (Some c) reply before now h low failed = absurd (low (subst (λ r. HasFault (Some c) r before now) failed h))
 
-rose_later : (first before now : ℕ) → first ≤ before → Rose before now → Rose first now
+pub rose_later : (first before now : ℕ) → first ≤ before → Rose before now → Rose first now
 rose_later first before now low rose = omega (arith, low, rose)
 
-rose_then : (first before now : ℕ) → before ≤ now → Rose first before → Rose first now
+pub rose_then : (first before now : ℕ) → before ≤ now → Rose first before → Rose first now
 rose_then first before now low rose = omega (arith, low, rose)
 
 module _ {D : Type 0} (stated : D → Option Geometry) (content : D → Option Content) (moment : D → ℕ) (left : D → ℕ → List (List ℕ) → Type 0) (faults : D → ℕ) where

@@ -43,9 +43,13 @@ pub record TurnDid (sizes : Geometry) (call : Option Call) (reply : Reply) (old 
   pub later : old.faults ≤ new.faults
   pub fault : reply ≡ Failed → (c : Call) → call ≡ Some c → Rose old.faults new.faults
 
+-- a call that failed had its fault
+pub has_fault : (call : Option Call) (reply : Reply) (before now : ℕ) → HasFault call reply before now → reply ≡ Failed → (c : Call) → call ≡ Some c → Rose before now
+has_fault call reply before now h failed c is = subst (λ r. HasFault (Some c) r before now) failed (subst (λ o. HasFault o reply before now) is h)
+
 module _ {D : Type 0} (stated : D → Option Geometry) (content : D → Option Content) (moment : D → ℕ) (left : D → ℕ → List (List ℕ) → Type 0) (faults : D → ℕ)
     (shaped : (d : D) (c : Content) → content d ≡ Some c → (g : Geometry) → stated d ≡ Some g → IsShaped g.block_size g.blocks c) where
-  did_lists : (g : Geometry) (call : Option Call) (reply : Reply) (old new : D) → stated old ≡ Some g → stated new ≡ Some g → IsOnDevice g call → Goes (DoesOne call reply) (content old) (content new)
+  pub did_lists : (g : Geometry) (call : Option Call) (reply : Reply) (old new : D) → stated old ≡ Some g → stated new ≡ Some g → IsOnDevice g call → Goes (DoesOne call reply) (content old) (content new)
       → Did g call reply (option_map disk_of (content old)) (option_map disk_of (content new))
   did_lists g call reply old new was is on goes = by (content old) refl (content new) refl goes
     where
@@ -54,9 +58,6 @@ module _ {D : Type 0} (stated : D → Option Geometry) (content : D → Option C
       by None a (Some d) b goes = absurd goes
       by (Some c) a None b goes = absurd goes
       by (Some c) a (Some d) b goes = does_it g c d (shaped old c a g was) (shaped new d b g is) call reply on goes
-
-  has_fault : (call : Option Call) (reply : Reply) (before now : ℕ) → HasFault call reply before now → reply ≡ Failed → (c : Call) → call ≡ Some c → Rose before now
-  has_fault call reply before now h failed c is = subst (λ r. HasFault (Some c) r before now) failed (subst (λ o. HasFault o reply before now) is h)
 
   did_turn : (old : Run D) (turn : Turned) (core : View D) → core.geometry ≡ old.core.geometry → old.core.calls ≤ 2 ^ 64 - 1 → stated old.core.disk ≡ Some old.core.geometry → IsSoundSession (plan_in old) (state_in old)
       → PassesTurn stated content moment left faults old turn core
