@@ -5,6 +5,7 @@ use Rattle.std.proofs.lemmas.Option.{slice_get_within}
 use Rattle.bow_units.specs.declared.sizes.Geometry.{Geometry}
 use Rattle.bow_disk.specs.Disk.{Content, IsCrash, IsShaped, IsImage}
 use Rattle.bow_flat.specs.Flat.{Flat}
+use Rattle.bow_guard.specs.Standing.{StandsFor}
 use Rattle.bow_core.specs.Further.{LedIn}
 use Rattle.bow_core.specs.Standing.{StandsIn}
 use Rattle.bow_core.specs.Views.{IsGivenOut, IsOpened, View}
@@ -16,19 +17,19 @@ use Rattle.bow_history.specs.declared.items.Item.{Item}
 use Rattle.bow_history.specs.Ends.{over_lanes}
 use Rattle.bow_history.specs.Journal.{Plan}
 use Rattle.bow_history.specs.Prepared.{AnswersPrepare, IsPrepared}
-use Rattle.bow_history.specs.Promises.{faults_in}
+use Rattle.bow_history.specs.Promises.{faults_in, held}
 use Rattle.bow_history.specs.SoundSessions.{IsSoundSession}
-use Rattle.bow_session.specs.Leads.{MayBeginAnew, WasLoaded, requests_of}
+use Rattle.bow_session.specs.Leads.{LeadsFrom, MayBeginAnew, WasLoaded, requests_of}
 use Rattle.bow_session.specs.Parts.{Account, account_of, plan_at}
 use Rattle.bow_session.specs.Requests.{lanes_of, requests_in}
 use Rattle.bow_session.specs.Sessions.{Run, plan_in, state_in}
 use Rattle.bow_session.proofs.Anew.{leads_on}
 use Rattle.bow_session.proofs.Cutting.{over_is_complete, over_is_idle}
-use Rattle.bow_session.proofs.Leading.{kept_agrees}
+use Rattle.bow_session.proofs.Leading.{kept_agrees, leads_from}
 use Rattle.bow_session.proofs.Loads.{few_lanes, few_requests}
 use Rattle.bow_pair.specs.Deciding.{AreAtRest}
 use Rattle.bow_pair.specs.Pairs.{AreReady, MayBeDealt, WerePrepared}
-use Rattle.bow_pair.specs.Playing.{EachBelow, EndsClean, EndsPrepared, HasPlayed, HavePlayed, LeadsTo, part_for}
+use Rattle.bow_pair.specs.Playing.{EachBelow, EndsClean, EndsPrepared, GoesFrom, HasPlayed, HavePlayed, LeadsTo, part_for}
 use Rattle.bow_pair.specs.Preparing.{AnswersPrepared, AnswersRan}
 use Rattle.bow_pair.specs.declared.pairs.Prepared.{Prepared}
 use Rattle.bow_pair.specs.declared.pairs.Prepared.TheVariants.{All}
@@ -173,9 +174,33 @@ module _ {D : Type 0} (stated : D → Option Geometry) (content : D → Option C
     subst (λ (b : Account). IsComplete (plan_at b) b.journal) k.account (over_is_complete stated content faults v k.loaded.turns k.session k.loaded.run k.over k.loaded.sound k.loaded.idle),
   )
 
+  -- so many faults were counted
+  pub faults_after : (script : List (List (List Line))) (v w : View D) (a : Account) → Played script v w a → held (faults v.disk + sum_by faults_in a.journal) ≤ faults w.disk
+  faults_after script v w a k =
+      let s = k.session in
+      subst (λ (x : View D). held (faults v.disk + sum_by faults_in a.journal) ≤ faults x.disk) k.device
+      (subst (λ (b : Account). held (faults v.disk + sum_by faults_in b.journal) ≤ faults s.core.disk) k.account k.loaded.run.session.faults)
+
   module _ (shaped : (d : D) (c : Content) → content d ≡ Some c → (g : Geometry) → stated d ≡ Some g → IsShaped g.block_size g.blocks c)
       (only_now : (d : D) (c : Content) → content d ≡ Some c → (t : ℕ) (image : List (List ℕ)) → moment d ≤ t → left d t image → IsCrash c.candidates image)
       (cuts_shaped : (d : D) (c : Content) → content d ≡ Some c → (g : Geometry) → stated d ≡ Some g → (t : ℕ) (image : List (List ℕ)) → left d t image → IsImage g.block_size g.blocks image) where
+    -- where it goes, whatever failed
+    pub goes_after : (script : List (List (List Line))) (v w : View D) (a : Account) (f : Flat) → (k : Played script v w a) → MayBeginAnew v → StandsIn content v f
+        → GoesFrom content moment left v f k.session w a
+    goes_after script v w a f k anew stands =
+        let s = k.session in
+        let from : LeadsFrom content moment left (StandsFor v.geometry) v f s =
+        subst (λ (g : Geometry). LeadsFrom content moment left (StandsFor g) v f s) (sym k.loaded.sizes)
+        (leads_from stated content moment left faults shaped only_now v f s k.loaded (stands, anew (plan_in s) (sym k.loaded.sizes))) in
+        let agrees = kept_agrees s (sound_run v s k.loaded) k.over in
+        let idle = over_is_idle stated content faults v k.loaded.turns s k.loaded.run k.over in
+        subst (λ (b : Account). GoesFrom content moment left v f s w b) k.account (subst (λ (x : View D). GoesFrom content moment left v f s x (account_of s)) k.device (record {
+          leads = from;
+          buffers = agrees;
+          legal = from.legal (state_in s).kept agrees;
+          stands = from.stands idle;
+        }))
+
     -- where it leads, if no fault was told
     pub leads_after : (script : List (List (List Line))) (v w : View D) (a : Account) (f : Flat) → Played script v w a → MayBeginAnew v → sum_by faults_in a.journal ≡ 0
         → StandsIn content v f → LedIn content v f → LeadsTo content f w a

@@ -5,18 +5,20 @@ use Rattle.bow_units.specs.declared.sizes.Geometry.{Geometry}
 use Rattle.bow_units.specs.declared.requests.Phase.TheVariants.{Checkpoint}
 use Rattle.bow_disk.specs.Disk.{Content}
 use Rattle.bow_flat.specs.Flat.{Flat}
+use Rattle.bow_guard.specs.Standing.{StandsFor}
 use Rattle.bow_core.specs.Further.{LedIn}
 use Rattle.bow_core.specs.Standing.{StandsIn}
 use Rattle.bow_core.specs.Views.{View}
 use Rattle.bow_script.specs.declared.scripts.Line.{Line}
 use Rattle.bow_deal.specs.Dealing.{later_part, opening_part}
 use Rattle.bow_history.specs.declared.items.Item.{Item}
+use Rattle.bow_history.specs.Fits.{Agrees}
 use Rattle.bow_history.specs.Journal.{Place, beginning, Legal}
 use Rattle.bow_history.specs.Prepared.{AnswersPrepare, IsPrepared}
 use Rattle.bow_history.specs.Promises.{faults_in}
-use Rattle.bow_session.specs.Leads.{MayBeginAnew, WasLoaded, requests_of}
+use Rattle.bow_session.specs.Leads.{LeadsFrom, MayBeginAnew, WasLoaded, requests_of}
 use Rattle.bow_session.specs.Parts.{Account, account_of, buffers_in, plan_at}
-use Rattle.bow_session.specs.Sessions.{IsOver, Run, plan_in}
+use Rattle.bow_session.specs.Sessions.{IsOver, Run, plan_in, state_in}
 use Rattle.bow_pair.specs.declared.playing.Round.{Round}
 use Rattle.bow_pair.specs.declared.playing.Round.TheVariants.{Opening, Later}
 
@@ -82,6 +84,16 @@ pub record LeadsTo {D : Type 0} (content : D → Option Content) (f : Flat) (new
   pub legal : Legal (plan_at a) (buffers_in a) a.journal (beginning f) place
   pub stands : StandsIn content new place.flat
   pub led : LedIn content new place.flat
+
+-- Where a session goes over a device that stood for this state, whatever failed: it leads from there, in its turns and
+-- in what cuts leave of them; its journal is legal up to a place, with the buffers of its account; and the device stands
+-- for the state of that place.
+pub record GoesFrom {D : Type 0} (content : D → Option Content) (moment : D → ℕ) (left : D → ℕ → List (List ℕ)
+    → Type 0) (old : View D) (f : Flat) (s : Run D) (new : View D) (a : Account) : Type 0 where
+  pub leads : LeadsFrom content moment left (StandsFor old.geometry) old f s
+  pub buffers : Agrees (plan_in s) (state_in s) (buffers_in a)
+  pub legal : Legal (plan_at a) (buffers_in a) a.journal (beginning f) leads.place
+  pub stands : StandsIn content new leads.place.flat
 
 -- which script a device plays in a round: its opening part, or its later one
 abbrev pub part_for : Round → ℕ → ℕ → List (List (List Line)) → List (List (List Line))

@@ -2,7 +2,7 @@
 ghost use Rattle.bow_pair.specs.BootLaws.{BootsSettle, CutsStayAgreed};
 ghost use Rattle.bow_pair.specs.Laws.{DecisionsSettle, MembersTakePart};
 ghost use Rattle.bow_pair.specs.PairLaws.{PairsEndTogether};
-ghost use Rattle.bow_pair.specs.SessionLaws.{SessionsAreComplete, SessionsLead, SessionsTakePart};
+ghost use Rattle.bow_pair.specs.SessionLaws.{SessionsAreComplete, SessionsCountFaults, SessionsGoLegally, SessionsLead, SessionsTakePart};
 
 use bow_disk::Disk;
 
@@ -19,10 +19,15 @@ pub fn pair_boots_law()
 /// What the sessions of several devices come to, of each device. It does nothing.
 ///
 /// - `complete`: what a session leaves is of its script, and its journal is complete.
+/// - `legal`: whatever failed, its journal is legal from the state for which the device stood, and where it leads, the
+///   device stands.
+/// - `faults`: the disk's count of faults rose by at least the number of items that tell one.
 /// - `lead`: one that told no fault leads on from a state to another, and its journal is legal on the way.
 /// - `take_part`: the device takes part in a decision with that state, flushed.
 pub fn pair_sessions_law<D: Disk>()
     ensures complete { SessionsAreComplete D.stated D.content D.moment D.left_since D.faults }
+    ensures legal { SessionsGoLegally D.stated D.content D.moment D.left_since D.faults }
+    ensures faults { SessionsCountFaults D.stated D.content D.moment D.left_since D.faults }
     ensures lead { SessionsLead D.stated D.content D.moment D.left_since D.faults }
     ensures take_part { SessionsTakePart D.content }
 {}
