@@ -86,8 +86,8 @@ pub record LeadsTo {D : Type 0} (content : D → Option Content) (f : Flat) (new
   pub led : LedIn content new place.flat
 
 -- Where a session goes over a device that stood for this state, whatever failed: it leads from there, in its turns and
--- in what cuts leave of them; its journal is legal up to a place, with the buffers of its account; and the device stands
--- for the state of that place.
+-- in what cuts leave of them; its journal is legal up to a place, with the buffers of its account; and for the state of
+-- that place the device stands.
 pub record GoesFrom {D : Type 0} (content : D → Option Content) (moment : D → ℕ) (left : D → ℕ → List (List ℕ)
     → Type 0) (old : View D) (f : Flat) (s : Run D) (new : View D) (a : Account) : Type 0 where
   pub leads : LeadsFrom content moment left (StandsFor old.geometry) old f s

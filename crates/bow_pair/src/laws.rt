@@ -21,7 +21,7 @@ pub fn pair_boots_law()
 /// - `complete`: what a session leaves is of its script, and its journal is complete.
 /// - `legal`: whatever failed, its journal is legal from the state for which the device stood, and where it leads, the
 ///   device stands.
-/// - `faults`: the disk's count of faults rose by at least the number of items that tell one.
+/// - `faults`: the disk's count of faults rose by at least the number of items that tell one, or is at its last value.
 /// - `lead`: one that told no fault leads on from a state to another, and its journal is legal on the way.
 /// - `take_part`: the device takes part in a decision with that state, flushed.
 pub fn pair_sessions_law<D: Disk>()
