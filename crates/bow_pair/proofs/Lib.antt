@@ -13,4 +13,5 @@ pub mod Rows
 pub mod Sessions
 pub mod Joins
 pub mod Together
+pub mod Phases
 pub mod Played

@@ -60,12 +60,12 @@ module _ {D : Type 0} (stated : D → Option Geometry) (content : D → Option C
         let device = h.over.each k d.0 v.0 d.1 v.1 in
         let one = h.played.each k v.0 w.0 a.0 v.1 w.1 a.1 in
         let two = h.played_on.each k w.0 u.0 b.0 w.1 u.1 b.1 in
-        let prepared = h.prepared k w.0 a.0 (slice_get_within first k a.0 a.1) w.1 a.1 in
-        let clean = h.clean k u.0 b.0 (slice_get_within second k b.0 b.1) u.1 b.1 in
+        let prepared = h.prepared k a.0 (slice_get_within h.ready k w.0 w.1) a.1 in
+        let clean = h.clean k b.0 low b.1 in
         let tells = h.tells k d.0 d.1 in
-        let began : LeadsTo content (opening (told k).now) w.0 a.0 = leads_after stated content moment left faults shaped only_now cuts_shaped (h.part k) v.0 w.0 a.0 (opening (told k).now) one device.ready.anew prepared.0.0 (device.stands (told k) tells) (device.led (told k) tells) in
+        let began : LeadsTo content (opening (told k).now) w.0 a.0 = leads_after stated content moment left faults shaped only_now cuts_shaped (h.part k) v.0 w.0 a.0 (opening (told k).now) one device.ready.anew prepared.0 (device.stands (told k) tells) (device.led (told k) tells) in
         let anew = anew_after stated content moment left faults (h.part k) v.0 w.0 a.0 one prepared in
-        let went_on : LeadsTo content began.place.flat u.0 b.0 = leads_after stated content moment left faults shaped only_now cuts_shaped (h.rest k) w.0 u.0 b.0 began.place.flat two anew clean.0 began.stands began.led in
+        let went_on : LeadsTo content began.place.flat u.0 b.0 = leads_after stated content moment left faults shaped only_now cuts_shaped (h.rest k) w.0 u.0 b.0 began.place.flat two anew clean began.stands began.led in
         let m : Member = record { sizes = (u.0).geometry; state = after (u.0).geometry.blocks Flushes went_on.place.flat } in (
           m,
           (

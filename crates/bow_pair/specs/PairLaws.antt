@@ -14,9 +14,12 @@ use Rattle.bow_pair.specs.Deciding.{AgreesBy, AreAtRest, TakePart, disks_of}
 use Rattle.bow_pair.specs.Joining.{AreOpenedOver}
 use Rattle.bow_pair.specs.Joint.{AreMembers, Each, IsJointCut, Member, Settled}
 use Rattle.bow_pair.specs.Laws.{SettlesBy}
-use Rattle.bow_pair.specs.Playing.{EachBelow, EndsClean, EndsPrepared, HavePlayed}
+use Rattle.bow_pair.specs.Playing.{HavePlayed}
+use Rattle.bow_pair.specs.Preparing.{AnswersPrepared, AnswersRan}
 use Rattle.bow_pair.specs.declared.boots.PairBooted.{PairBooted}
 use Rattle.bow_pair.specs.declared.deciding.Decided.{Decided}
+use Rattle.bow_pair.specs.declared.pairs.Prepared.TheVariants.{All}
+use Rattle.bow_pair.specs.declared.pairs.Ran.TheVariants.{Clean}
 
 -- Devices that were opened on disks which told these contents, played their first sessions and ended prepared, and then
 -- their second ones and ended clean, at rest.
@@ -29,10 +32,10 @@ pub record HaveRun {D : Type 0} (stated : D → Option Geometry) (content : D �
   pub part : ℕ → List (List (List Line))
   pub ready : List (View D)
   pub played : HavePlayed stated content moment left faults part opened ready first
-  pub prepared : EachBelow EndsPrepared ready first (length first)
+  pub prepared : AnswersPrepared ready first All
   pub rest : ℕ → List (List (List Line))
   pub played_on : HavePlayed stated content moment left faults rest ready ran second
-  pub clean : EachBelow EndsClean ran second (length second)
+  pub clean : AnswersRan ran second Clean
   pub rests : AreAtRest stated 2 ran
 
 -- Where the journals of a device lead: the first is legal from the state in which a disk is opened that told this, the

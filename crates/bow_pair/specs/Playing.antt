@@ -53,29 +53,25 @@ pub record HavePlayed {D : Type 0} (stated : D → Option Geometry) (content : D
   pub each : (k : ℕ) (v w : View D) (a : Account) → slice_get old k ≡ Some v → slice_get new k ≡ Some w
       → slice_get accounts k ≡ Some a → HasPlayed stated content moment left faults (part k) v w a
 
--- the journal tells no fault of the disk, and the device is in the checkpoint
-abbrev pub EndsClean : {D : Type 0} → View D → Account → Type 0
-EndsClean v a = (sum_by faults_in a.journal ≡ 0) × (v.memory.phase ≡ Checkpoint)
+-- the journal tells no fault of the disk
+abbrev pub EndsClean : Account → Type 0
+EndsClean a = sum_by faults_in a.journal ≡ 0
 
--- The journal tells no fault and ends with a prepare that was answered Done, and the device is in the checkpoint.
-abbrev pub EndsPrepared : {D : Type 0} → View D → Account → Type 0
-EndsPrepared v a = EndsClean v a × ((front : List Item) × (item : Item) × (a.journal ≡ front ++ item ∷ [])
+-- it tells no fault, and ends with a prepare that was answered Done
+abbrev pub EndsPrepared : Account → Type 0
+EndsPrepared a = EndsClean a × ((front : List Item) × (item : Item) × (a.journal ≡ front ++ item ∷ [])
     × AnswersPrepare (plan_at a) item)
 
--- of each of the first so many devices, and what a session over it left
-abbrev pub EachBelow : {D : Type 0} → (View D → Account → Type 0) → List (View D) → List Account → ℕ → Type 0
-EachBelow {D} P cores accounts many = (k : ℕ) (v : View D) (a : Account) → k < many → slice_get cores k ≡ Some v
-    → slice_get accounts k ≡ Some a → P v a
+-- of what the sessions over the first so many devices left
+abbrev pub EachBelow : (Account → Type 0) → List Account → ℕ → Type 0
+EachBelow P accounts many = (k : ℕ) (a : Account) → k < many → slice_get accounts k ≡ Some a → P a
 
--- this device is the first of which it does not hold
-pub record IsFirstNot {D : Type 0} (P : View D → Account → Type 0) (cores : List (View D)) (accounts : List Account)
-    (device : ℕ) : Type 0 where
-  pub before : EachBelow P cores accounts device
-  pub core : View D
+-- this device is the first of whose session it does not hold
+pub record IsFirstNot (P : Account → Type 0) (accounts : List Account) (device : ℕ) : Type 0 where
+  pub before : EachBelow P accounts device
   pub account : Account
-  pub device_is : slice_get cores device ≡ Some core
   pub account_is : slice_get accounts device ≡ Some account
-  pub fails : P core account → ⊥
+  pub fails : P account → ⊥
 
 -- Where a session leads that told no fault, over a device that stood for this state and was led for it: the journal is
 -- legal from there to a place, and for the state of that place the device stands and is led.
