@@ -81,7 +81,7 @@ module _ {D : Type 0} (stated : D → Option Geometry) (content : D → Option C
   idle_after script v w a k = ap (λ (x : View D). x.memory.requests) (sym k.device) ∙ over_is_idle stated content faults v k.loaded.turns k.session k.loaded.run k.over
 
   -- the device is one that was opened
-  opened_after : (script : List (List (List Line))) (v w : View D) (a : Account) → Played script v w a → IsOpened stated w
+  pub opened_after : (script : List (List (List Line))) (v w : View D) (a : Account) → Played script v w a → IsOpened stated w
   opened_after script v w a k =
       let idle = over_is_idle stated content faults v k.loaded.turns k.session k.loaded.run k.over in
       let places = k.ended.places in

@@ -1,7 +1,7 @@
 // What boots of several devices, cut and begun again, make of them, and of a decision before.
 ghost use Rattle.bow_pair.specs.BootLaws.{BootsSettle, CutsStayAgreed};
 ghost use Rattle.bow_pair.specs.Laws.{DecisionsSettle, MembersTakePart};
-ghost use Rattle.bow_pair.specs.PairLaws.{PairsEndTogether};
+ghost use Rattle.bow_pair.specs.PairLaws.{PairsEndTogether, PreparedRollBack, RunsRollBack};
 ghost use Rattle.bow_pair.specs.SessionLaws.{SessionsAreComplete, SessionsCountFaults, SessionsGoLegally, SessionsLead, SessionsTakePart};
 
 use bow_disk::Disk;
@@ -32,14 +32,19 @@ pub fn pair_sessions_law<D: Disk>()
     ensures take_part { SessionsTakePart D.content }
 {}
 
-/// Devices that are opened on several disks, prepared and run, as `Pair` does it, and decided over; cut anywhere since
-/// they have run, and then boots, as often as may be, each cut anywhere: the first boot that ends well leaves all of
-/// them with their committed data, or all with their checkpoint in place. It does nothing.
+/// Devices that are opened on several disks, prepared and run, as `Pair` does it, and decided over; cut at the end of
+/// one of these calls, and then boots, as often as may be, each cut anywhere: what the first boot that ends well leaves
+/// of all of them. No text is kept then. It does nothing.
 ///
-/// Before the decision it is the checkpoint; once it is decided, what the answer says, as in `pair_law`. What is
-/// committed, and what was saved, is what the journals of both sessions say, the second from where the first one leads.
+/// - `prepared`: cut once all are prepared, each has its checkpoint in place, which is what its first journal says.
+/// - `ran`: cut once they have run, whether clean or with a fault, each has that same checkpoint in place.
+/// - `decided`: where they have run clean, all have their committed data, or all have their checkpoint. Before the
+///   decision it is the checkpoint; once it is decided, what the answer says, as in `pair_law`. What is committed, and
+///   what was saved, is what the journals of both sessions say, the second from where the first one leads.
 pub fn pair_runs_law<D: Disk>()
-    ensures { PairsEndTogether D.stated D.content D.moment D.left_since D.faults }
+    ensures prepared { PreparedRollBack D.stated D.content D.moment D.left_since D.faults }
+    ensures ran { RunsRollBack D.stated D.content D.moment D.left_since D.faults }
+    ensures decided { PairsEndTogether D.stated D.content D.moment D.left_since D.faults }
 {}
 
 /// Decide over several devices, each in its checkpoint, cut anywhere, and then cut boots as often as may be, each
