@@ -1,5 +1,5 @@
 -- What the decision of several devices leaves.
-use Rattle.std.proofs.Common.{◌≡◌, ◌⊎◌, inl, inr, ℕ, true, false, List, Option, Some, length, refl, sym, ap, ◌∙◌, subst, arith}
+use Rattle.std.proofs.Common.{◌≡◌, ◌⊎◌, inl, inr, ℕ, Bool, true, false, List, Option, Some, length, refl, sym, ap, ◌∙◌, subst, arith}
 use Rattle.std.specs.Prelude.{slice_get, Result, Ok, Err, is_err}
 use Rattle.std.specs.Option.{option_map}
 use Rattle.std.proofs.lemmas.Option.{slice_get-map, slice_get_cases, slice_get_within}
@@ -54,20 +54,26 @@ module _ {D : Type 0} (stated : D → Option Geometry) (content : D → Option C
   all_rest old new long all k w at = let v = paired new old k w (sym long) at in (all k v.0 w v.1 at).rests
 
   -- the image of a device's disk
-  cut_at : (cores : List (View D)) (images : ℕ → List (List ℕ)) → IsJointCut content (disks_of cores) images → (k : ℕ) (w : View D) → slice_get cores k ≡ Some w → IsCutOf content w.disk (images k)
+  pub cut_at : (cores : List (View D)) (images : ℕ → List (List ℕ)) → IsJointCut content (disks_of cores) images → (k : ℕ) (w : View D) → slice_get cores k ≡ Some w → IsCutOf content w.disk (images k)
   cut_at cores images joint k w at = joint k w.disk (slice_get-map (λ (v : View D). v.disk) cores k ∙ ap (option_map (λ (v : View D). v.disk)) at)
 
-  held_of : (v w : View D) (m : Member) (image : List (List ℕ)) → TakesPart content v m → StillHolds stated content faults v w → IsCutOf content w.disk image → HoldsSaved m image
-  held_of v w m image part holds (c, told, crash) =
-      let rests = holds.rests in
-      let opened = rests.opened in
-      let sizes : m.sizes ≡ w.geometry = part.sizes ∙ sym holds.geometry in
+  -- the image of a device that stands, in the checkpoint, for a state with what the member has in use and saved
+  pub held_in : (w : View D) (m : Member) (f : Flat) (image : List (List ℕ)) → m.sizes ≡ w.geometry → m.state.used ≡ f.used → m.state.saved ≡ f.saved → IsOpened stated w → w.memory.phase ≡ Checkpoint → StandsIn content w f → IsCutOf content w.disk image
+      → HoldsSaved m image
+  held_in w m f image sizes used saved opened phase stands (c, told, crash) =
       let shape = shaped w.disk c told w.geometry opened.sizes in
       let whole : IsImage w.geometry.block_size w.geometry.blocks image = crash_image w.geometry.block_size w.geometry.blocks c image shape crash in
-      let by : (f : Flat) → StandsIn content w f → Keeps w.geometry f.used f.saved (contents_of image) = λ f s. held_by w.geometry w.memory c image f shape crash (subst (λ (o : Option Content). StandsOver w.geometry w.memory o f) told s) rests.checkpoint in
-      let keeps : Keeps w.geometry (part.before).used (part.before).saved (contents_of image) = elim (holds.stands part.before part.stands part.led) [ inl s ↦ by part.before s | inr s ↦ by (after v.geometry.blocks Flushes part.before) s ] in
+      let keeps = held_by w.geometry w.memory c image f shape crash (subst (λ (o : Option Content). StandsOver w.geometry w.memory o f) told stands) phase in
       subst (λ (g : Geometry). IsImage g.block_size g.blocks image × Holds g m.state.used m.state.saved (contents_of image)) (sym sizes)
-      (whole, inl (subst (λ (f : Flat). Keeps w.geometry f.used f.saved (contents_of image)) (sym part.state) keeps))
+      (whole, inl (subst (λ (u : ℕ → Bool). Keeps w.geometry u m.state.saved (contents_of image)) (sym used) (subst (λ (s : ℕ → List ℕ). Keeps w.geometry f.used s (contents_of image)) (sym saved) keeps)))
+
+  held_of : (v w : View D) (m : Member) (image : List (List ℕ)) → TakesPart content v m → StillHolds stated content faults v w → IsCutOf content w.disk image → HoldsSaved m image
+  held_of v w m image part holds cut =
+      let used : m.state.used ≡ (part.before).used = ap (λ (f : Flat). f.used) part.state in
+      let saved : m.state.saved ≡ (part.before).saved = ap (λ (f : Flat). f.saved) part.state in
+      let by : (f : Flat) → m.state.used ≡ f.used → m.state.saved ≡ f.saved → StandsIn content w f → HoldsSaved m image =
+      λ f u s stands. held_in w m f image (part.sizes ∙ sym holds.geometry) u s (holds.rests).opened (holds.rests).checkpoint stands cut in
+      elim (holds.stands part.before part.stands part.led) [ inl s ↦ by part.before used saved s | inr s ↦ by (after v.geometry.blocks Flushes part.before) used saved s ]
 
   forward_of : (w : View D) (m : Member) (image : List (List ℕ)) → m.sizes ≡ w.geometry → IsOpened stated w → ((c : Content) → content w.disk ≡ Some c → (i : List (List ℕ)) → IsCrash c.candidates i → Forwardable w.geometry m.state (contents_of i)) → IsCutOf content w.disk image → IsForwardable m image
   forward_of w m image sizes opened images (c, told, crash) =

@@ -16,7 +16,7 @@ use Rattle.bow_pair.specs.declared.deciding.Decided.TheVariants.{Committed, NotC
 use Rattle.bow_pair.proofs.Agreeing.{boots_settle}
 
 -- what it stands for is that of a disk that tells its content
-standing_of : (g : Geometry) (m : Memory) (o : Option Content) (f : Flat) → StandsOver g m o f → (c : Content) × IsStanding g m (contents_of c.now) (candidates_of c.candidates) f
+pub standing_of : (g : Geometry) (m : Memory) (o : Option Content) (f : Flat) → StandsOver g m o f → (c : Content) × IsStanding g m (contents_of c.now) (candidates_of c.candidates) f
 standing_of g m None f s = absurd s
 standing_of g m (Some c) f s = (c, s)
 

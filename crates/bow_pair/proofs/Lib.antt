@@ -12,5 +12,7 @@ pub mod Firsts
 pub mod Rows
 pub mod Sessions
 pub mod Joins
+pub mod Saved
 pub mod Together
+pub mod Phases
 pub mod Played

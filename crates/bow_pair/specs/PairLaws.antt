@@ -2,54 +2,85 @@
 use Rattle.std.specs.Prelude.{◌≡◌, ℕ, false, List, [], map, length, slice_get, Option, None, Some}
 use Rattle.bow_units.specs.declared.sizes.Geometry.{Geometry}
 use Rattle.bow_disk.specs.Disk.{Content}
-use Rattle.bow_flat.specs.Flat.{after, opening}
+use Rattle.bow_flat.specs.Flat.{Flat, after, opening}
 use Rattle.bow_flat.specs.Flat.Event.{Flushes}
 use Rattle.bow_core.specs.Views.{View}
 use Rattle.bow_script.specs.declared.scripts.Line.{Line}
+use Rattle.bow_deal.specs.Dealing.{later_part, opening_part}
 use Rattle.bow_history.specs.Journal.{Place, beginning, Legal}
 use Rattle.bow_session.specs.Parts.{Account, buffers_in, plan_at}
 use Rattle.bow_pair.specs.Boot.{AreTold}
 use Rattle.bow_pair.specs.Boots.{CutBoots, EndedBoot}
-use Rattle.bow_pair.specs.Deciding.{AgreesBy, AreAtRest, TakePart, disks_of}
+use Rattle.bow_pair.specs.Deciding.{AgreesBy, TakePart, disks_of}
 use Rattle.bow_pair.specs.Joining.{AreOpenedOver}
 use Rattle.bow_pair.specs.Joint.{AreMembers, Each, IsJointCut, Member, Settled}
 use Rattle.bow_pair.specs.Laws.{SettlesBy}
-use Rattle.bow_pair.specs.Playing.{EachBelow, EndsClean, EndsPrepared, HavePlayed}
+use Rattle.bow_pair.specs.Pairs.{MayBeDealt}
+use Rattle.bow_pair.specs.Playing.{HavePlayed}
+use Rattle.bow_pair.specs.Preparing.{AnswersPrepared, AnswersRan}
 use Rattle.bow_pair.specs.declared.boots.PairBooted.{PairBooted}
 use Rattle.bow_pair.specs.declared.deciding.Decided.{Decided}
+use Rattle.bow_pair.specs.declared.pairs.Prepared.TheVariants.{All}
+use Rattle.bow_pair.specs.declared.pairs.Ran.TheVariants.{Clean}
 
--- Devices that were opened on disks which told these contents, played their first sessions and ended prepared, and then
--- their second ones and ended clean, at rest.
-pub record HaveRun {D : Type 0} (stated : D → Option Geometry) (content : D → Option Content) (moment : D → ℕ)
+-- Devices that were opened on disks which told these contents, and played their first sessions, each its opening part
+-- of the script: all ended prepared.
+pub record HavePrepared {D : Type 0} (stated : D → Option Geometry) (content : D → Option Content) (moment : D → ℕ)
     (left : D → ℕ → List (List ℕ) → Type 0) (faults : D → ℕ) (disks : List D) (told : ℕ → Content)
-    (ran : List (View D)) (first second : List Account) : Type 0 where
+    (script : List (List (List Line))) (ready : List (View D)) (first : List Account) : Type 0 where
   pub tells : AreTold content disks told
   pub opened : List (View D)
   pub over : AreOpenedOver stated content moment left faults disks [] opened
-  pub part : ℕ → List (List (List Line))
+  pub dealt : MayBeDealt script
+  pub played : HavePlayed stated content moment left faults (λ device. opening_part device (length opened) script)
+      opened ready first
+  pub prepared : AnswersPrepared ready first All
+
+-- Such devices that played their second sessions, too, each its later part of the script, however these ended.
+pub record HaveRun {D : Type 0} (stated : D → Option Geometry) (content : D → Option Content) (moment : D → ℕ)
+    (left : D → ℕ → List (List ℕ) → Type 0) (faults : D → ℕ) (disks : List D) (told : ℕ → Content)
+    (ran : List (View D)) (first second : List Account) : Type 0 where
+  pub script : List (List (List Line))
   pub ready : List (View D)
-  pub played : HavePlayed stated content moment left faults part opened ready first
-  pub prepared : EachBelow EndsPrepared ready first (length first)
-  pub rest : ℕ → List (List (List Line))
-  pub played_on : HavePlayed stated content moment left faults rest ready ran second
-  pub clean : EachBelow EndsClean ran second (length second)
-  pub rests : AreAtRest stated 2 ran
+  pub began : HavePrepared stated content moment left faults disks told script ready first
+  pub played : HavePlayed stated content moment left faults (λ device. later_part device (length ready) script) ready
+      ran second
 
--- Where the journals of a device lead: the first is legal from the state in which a disk is opened that told this, the
--- second from where the first one leads, and the member is the state to which the second leads, flushed.
-pub record JournalsLead (told : Content) (first second : Account) (m : Member) : Type 0 where
-  pub between : Place
+-- a journal leads from this state: it is legal from there to a place
+pub record JournalLeads (f : Flat) (a : Account) : Type 0 where
   pub place : Place
-  pub opening : Legal (plan_at first) (buffers_in first) first.journal (beginning (opening told.now)) between
-  pub later : Legal (plan_at second) (buffers_in second) second.journal (beginning between.flat) place
-  pub state : m.state ≡ after m.sizes.blocks Flushes place.flat
+  pub legal : Legal (plan_at a) (buffers_in a) a.journal (beginning f) place
 
--- these are the members, one for each device, as its journals have it
+-- Where the first journal of a device leads from the state in which a disk is opened that told this: the member is that
+-- state, flushed.
+pub record FirstLeads (told : Content) (first : Account) (m : Member) : Type 0 where
+  pub way : JournalLeads (opening told.now) first
+  pub state : m.state ≡ after m.sizes.blocks Flushes way.place.flat
+
+-- Where the second journal leads from where the first one leads: the member is that state, flushed.
+pub record JournalsLead (told : Content) (first second : Account) (m : Member) : Type 0 where
+  pub way : JournalLeads (opening told.now) first
+  pub on : JournalLeads way.place.flat second
+  pub state : m.state ≡ after m.sizes.blocks Flushes on.place.flat
+
+-- these are members, one for each device, and take part with them
+pub record AreOf {D : Type 0} (content : D → Option Content) (cores : List (View D)) (members : List Member) :
+    Type 0 where
+  pub many : length members ≡ length cores
+  pub are : AreMembers members
+  pub take_part : TakePart content cores members
+
+-- these are the members of devices that are prepared, as their first journals have them
+pub record ArePreparedTo {D : Type 0} (content : D → Option Content) (told : ℕ → Content) (ready : List (View D))
+    (first : List Account) (members : List Member) : Type 0 where
+  pub each : AreOf content ready members
+  pub lead : (k : ℕ) (m : Member) (a : Account) → slice_get members k ≡ Some m → slice_get first k ≡ Some a
+      → FirstLeads (told k) a m
+
+-- these are the members of devices that have run, as both their journals have them
 pub record AreLedTo {D : Type 0} (content : D → Option Content) (told : ℕ → Content) (ran : List (View D))
     (first second : List Account) (members : List Member) : Type 0 where
-  pub many : length members ≡ length ran
-  pub are : AreMembers members
-  pub take_part : TakePart content ran members
+  pub each : AreOf content ran members
   pub lead : (k : ℕ) (m : Member) (a b : Account) → slice_get members k ≡ Some m → slice_get first k ≡ Some a
       → slice_get second k ≡ Some b → JournalsLead (told k) a b m
 
@@ -75,9 +106,29 @@ pub record EndTogether {D : Type 0} (content : D → Option Content) (ran : List
   pub after : (answer : Decided) (now : List (View D)) (text : Option (List ℕ))
       → LeavesAgreed content ran now text answer → EndsIn content ran now text (SettlesBy answer members)
 
--- Devices that have run are led to members by their journals, and with those they end together.
+-- Devices that are prepared are led to members by their first journals. Cut before the second sessions, they all have
+-- the checkpoint of these in the end.
+abbrev pub PreparedRollBack : {D : Type 0} (stated : D → Option Geometry) (content : D → Option Content)
+    (moment : D → ℕ) (left : D → ℕ → List (List ℕ) → Type 0) (faults : D → ℕ) → Type 0
+PreparedRollBack {D} stated content moment left faults = (disks : List D) (told : ℕ → Content)
+    (script : List (List (List Line))) (ready : List (View D)) (first : List Account)
+    → HavePrepared stated content moment left faults disks told script ready first
+    → (members : List Member) × ArePreparedTo content told ready first members
+    × EndsIn content ready ready None (Each (Settled false) members)
+
+-- However the second sessions ended, cut behind them the devices all have the same checkpoint in the end: that of the
+-- members to which the first ones led.
+abbrev pub RunsRollBack : {D : Type 0} (stated : D → Option Geometry) (content : D → Option Content)
+    (moment : D → ℕ) (left : D → ℕ → List (List ℕ) → Type 0) (faults : D → ℕ) → Type 0
+RunsRollBack {D} stated content moment left faults = (disks : List D) (told : ℕ → Content) (ran : List (View D))
+    (first second : List Account) → (h : HaveRun stated content moment left faults disks told ran first second)
+    → (members : List Member) → ArePreparedTo content told h.ready first members
+    → EndsIn content ran ran None (Each (Settled false) members)
+
+-- Devices that have run and ended clean are led to members by both their journals, and with those they end together.
 abbrev pub PairsEndTogether : {D : Type 0} (stated : D → Option Geometry) (content : D → Option Content)
     (moment : D → ℕ) (left : D → ℕ → List (List ℕ) → Type 0) (faults : D → ℕ) → Type 0
 PairsEndTogether {D} stated content moment left faults = (disks : List D) (told : ℕ → Content) (ran : List (View D))
     (first second : List Account) → HaveRun stated content moment left faults disks told ran first second
-    → (members : List Member) × AreLedTo content told ran first second members × EndTogether content ran members
+    → AnswersRan ran second Clean → (members : List Member) × AreLedTo content told ran first second members
+    × EndTogether content ran members

@@ -5,18 +5,20 @@ use Rattle.bow_units.specs.declared.sizes.Geometry.{Geometry}
 use Rattle.bow_units.specs.declared.requests.Phase.TheVariants.{Checkpoint}
 use Rattle.bow_disk.specs.Disk.{Content}
 use Rattle.bow_flat.specs.Flat.{Flat}
+use Rattle.bow_guard.specs.Standing.{StandsFor}
 use Rattle.bow_core.specs.Further.{LedIn}
 use Rattle.bow_core.specs.Standing.{StandsIn}
 use Rattle.bow_core.specs.Views.{View}
 use Rattle.bow_script.specs.declared.scripts.Line.{Line}
 use Rattle.bow_deal.specs.Dealing.{later_part, opening_part}
 use Rattle.bow_history.specs.declared.items.Item.{Item}
+use Rattle.bow_history.specs.Fits.{Agrees}
 use Rattle.bow_history.specs.Journal.{Place, beginning, Legal}
 use Rattle.bow_history.specs.Prepared.{AnswersPrepare, IsPrepared}
 use Rattle.bow_history.specs.Promises.{faults_in}
-use Rattle.bow_session.specs.Leads.{MayBeginAnew, WasLoaded, requests_of}
+use Rattle.bow_session.specs.Leads.{LeadsFrom, MayBeginAnew, WasLoaded, requests_of}
 use Rattle.bow_session.specs.Parts.{Account, account_of, buffers_in, plan_at}
-use Rattle.bow_session.specs.Sessions.{IsOver, Run, plan_in}
+use Rattle.bow_session.specs.Sessions.{IsOver, Run, plan_in, state_in}
 use Rattle.bow_pair.specs.declared.playing.Round.{Round}
 use Rattle.bow_pair.specs.declared.playing.Round.TheVariants.{Opening, Later}
 
@@ -51,29 +53,25 @@ pub record HavePlayed {D : Type 0} (stated : D → Option Geometry) (content : D
   pub each : (k : ℕ) (v w : View D) (a : Account) → slice_get old k ≡ Some v → slice_get new k ≡ Some w
       → slice_get accounts k ≡ Some a → HasPlayed stated content moment left faults (part k) v w a
 
--- the journal tells no fault of the disk, and the device is in the checkpoint
-abbrev pub EndsClean : {D : Type 0} → View D → Account → Type 0
-EndsClean v a = (sum_by faults_in a.journal ≡ 0) × (v.memory.phase ≡ Checkpoint)
+-- the journal tells no fault of the disk
+abbrev pub EndsClean : Account → Type 0
+EndsClean a = sum_by faults_in a.journal ≡ 0
 
--- The journal tells no fault and ends with a prepare that was answered Done, and the device is in the checkpoint.
-abbrev pub EndsPrepared : {D : Type 0} → View D → Account → Type 0
-EndsPrepared v a = EndsClean v a × ((front : List Item) × (item : Item) × (a.journal ≡ front ++ item ∷ [])
+-- it tells no fault, and ends with a prepare that was answered Done
+abbrev pub EndsPrepared : Account → Type 0
+EndsPrepared a = EndsClean a × ((front : List Item) × (item : Item) × (a.journal ≡ front ++ item ∷ [])
     × AnswersPrepare (plan_at a) item)
 
--- of each of the first so many devices, and what a session over it left
-abbrev pub EachBelow : {D : Type 0} → (View D → Account → Type 0) → List (View D) → List Account → ℕ → Type 0
-EachBelow {D} P cores accounts many = (k : ℕ) (v : View D) (a : Account) → k < many → slice_get cores k ≡ Some v
-    → slice_get accounts k ≡ Some a → P v a
+-- of what the sessions over the first so many devices left
+abbrev pub EachBelow : (Account → Type 0) → List Account → ℕ → Type 0
+EachBelow P accounts many = (k : ℕ) (a : Account) → k < many → slice_get accounts k ≡ Some a → P a
 
--- this device is the first of which it does not hold
-pub record IsFirstNot {D : Type 0} (P : View D → Account → Type 0) (cores : List (View D)) (accounts : List Account)
-    (device : ℕ) : Type 0 where
-  pub before : EachBelow P cores accounts device
-  pub core : View D
+-- this device is the first of whose session it does not hold
+pub record IsFirstNot (P : Account → Type 0) (accounts : List Account) (device : ℕ) : Type 0 where
+  pub before : EachBelow P accounts device
   pub account : Account
-  pub device_is : slice_get cores device ≡ Some core
   pub account_is : slice_get accounts device ≡ Some account
-  pub fails : P core account → ⊥
+  pub fails : P account → ⊥
 
 -- Where a session leads that told no fault, over a device that stood for this state and was led for it: the journal is
 -- legal from there to a place, and for the state of that place the device stands and is led.
@@ -82,6 +80,16 @@ pub record LeadsTo {D : Type 0} (content : D → Option Content) (f : Flat) (new
   pub legal : Legal (plan_at a) (buffers_in a) a.journal (beginning f) place
   pub stands : StandsIn content new place.flat
   pub led : LedIn content new place.flat
+
+-- Where a session goes over a device that stood for this state, whatever failed: it leads from there, in its turns and
+-- in what cuts leave of them; its journal is legal up to a place, with the buffers of its account; and for the state of
+-- that place the device stands.
+pub record GoesFrom {D : Type 0} (content : D → Option Content) (moment : D → ℕ) (left : D → ℕ → List (List ℕ)
+    → Type 0) (old : View D) (f : Flat) (s : Run D) (new : View D) (a : Account) : Type 0 where
+  pub leads : LeadsFrom content moment left (StandsFor old.geometry) old f s
+  pub buffers : Agrees (plan_in s) (state_in s) (buffers_in a)
+  pub legal : Legal (plan_at a) (buffers_in a) a.journal (beginning f) leads.place
+  pub stands : StandsIn content new leads.place.flat
 
 -- which script a device plays in a round: its opening part, or its later one
 abbrev pub part_for : Round → ℕ → ℕ → List (List (List Line)) → List (List (List Line))

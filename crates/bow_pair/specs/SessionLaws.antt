@@ -1,5 +1,5 @@
 -- What the sessions of a pair come to, of each device.
-use Rattle.std.specs.Prelude.{◌≡◌, ℕ, List, Option}
+use Rattle.std.specs.Prelude.{◌≡◌, ℕ, ◌+◌, ◌≤◌, List, Option}
 use Rattle.std.specs.List.{sum_by}
 use Rattle.bow_units.specs.declared.sizes.Geometry.{Geometry}
 use Rattle.bow_disk.specs.Disk.{Content}
@@ -10,11 +10,11 @@ use Rattle.bow_core.specs.Standing.{StandsIn}
 use Rattle.bow_core.specs.Views.{View}
 use Rattle.bow_script.specs.declared.scripts.Line.{Line}
 use Rattle.bow_history.specs.Complete.{IsComplete}
-use Rattle.bow_history.specs.Promises.{faults_in}
+use Rattle.bow_history.specs.Promises.{faults_in, held}
 use Rattle.bow_session.specs.Leads.{MayBeginAnew}
 use Rattle.bow_session.specs.Parts.{Account, plan_at}
 use Rattle.bow_pair.specs.Deciding.{TakesPart}
-use Rattle.bow_pair.specs.Playing.{HasPlayed, LeadsTo}
+use Rattle.bow_pair.specs.Playing.{GoesFrom, HasPlayed, LeadsTo}
 
 module _ {D : Type 0} (stated : D → Option Geometry) (content : D → Option Content) (moment : D → ℕ)
     (left : D → ℕ → List (List ℕ) → Type 0) (faults : D → ℕ) where
@@ -23,6 +23,19 @@ module _ {D : Type 0} (stated : D → Option Geometry) (content : D → Option C
   SessionsAreComplete = (script : List (List (List Line))) (v w : View D) (a : Account)
       → HasPlayed stated content moment left faults script v w a
       → (a.script ≡ script) × (a.sizes ≡ v.geometry) × (w.geometry ≡ v.geometry) × IsComplete (plan_at a) a.journal
+
+  -- Whatever failed, it goes on legally: over a device that stood for a state and in whose checkpoint nothing was
+  -- touched, its journal is legal from there to a place, and for the state of that place the device stands.
+  abbrev pub SessionsGoLegally : Type 0
+  SessionsGoLegally = (script : List (List (List Line))) (v w : View D) (a : Account) (f : Flat)
+      → (k : HasPlayed stated content moment left faults script v w a) → MayBeginAnew v → StandsIn content v f
+      → GoesFrom content moment left v f k.session w a
+
+  -- The disk's count of faults rose by at least the number of items that tell one, or stands at its last value.
+  abbrev pub SessionsCountFaults : Type 0
+  SessionsCountFaults = (script : List (List (List Line))) (v w : View D) (a : Account)
+      → HasPlayed stated content moment left faults script v w a
+      → held (faults v.disk + sum_by faults_in a.journal) ≤ faults w.disk
 
   -- One that told no fault leads on: over a device that stood for a state and was led for it, its journal is legal from
   -- there to a place, and for the state of that place the device stands and is led.

@@ -6,16 +6,13 @@ ghost use Rattle.bow_history.specs.Promises.{faults_in};
 ghost use Rattle.bow_history.specs.declared.items.Item.{Item};
 ghost use Rattle.bow_session.specs.Parts.{plan_at};
 ghost use Rattle.bow_pair.specs.Playing.{EachBelow, EndsClean, EndsPrepared, IsFirstNot};
-ghost use Rattle.bow_pair.specs.Preparing.{AnswersPrepared, AnswersRan};
+ghost use Rattle.bow_pair.specs.Preparing.{HowPrepared, HowRan};
 
 use crate::pairs::{Prepared, Ran};
-use bow_core::Core;
-use bow_disk::Disk;
 use bow_history::Item;
-use bow_ranges::Ranges;
 use bow_script::Line;
 use bow_session::Part;
-use bow_units::{Outcome, Phase};
+use bow_units::Outcome;
 
 // Whether no item tells a fault of the disk.
 fn tells_none(items: &[Item]) -> bool
@@ -50,44 +47,42 @@ fn ends_with_prepare(account: &Part) -> bool
     }
 }
 
-// Whether no fault was told, and the device is in the checkpoint.
-fn ends_clean<D: Disk, R: Ranges>(core: &Core<D, R>, account: &Part) -> bool
-    ensures { IsTrue result ↔ EndsClean core.now account.now }
+// Whether no fault was told.
+fn ends_clean(account: &Part) -> bool
+    ensures { IsTrue result ↔ EndsClean account.now }
 {
-    tells_none(account.journal()) && core.status().phase == Phase::Checkpoint
+    tells_none(account.journal())
 }
 
 // Whether the device was prepared, and no fault was told.
-fn ends_prepared<D: Disk, R: Ranges>(core: &Core<D, R>, account: &Part) -> bool
-    ensures { IsTrue result ↔ EndsPrepared core.now account.now }
+fn ends_prepared(account: &Part) -> bool
+    ensures { IsTrue result ↔ EndsPrepared account.now }
 {
-    ends_clean(core, account) && ends_with_prepare(account)
+    ends_clean(account) && ends_with_prepare(account)
 }
 
 // The first device that was not prepared, or of which a fault was told.
-fn first_unprepared<D: Disk, R: Ranges>(cores: &[Core<D, R>], accounts: &[Part]) -> Option<u32>
-    requires many { length cores.now ≡ length accounts.now }
+fn first_unprepared(accounts: &[Part]) -> Option<u32>
     requires few { length accounts.now ≤ 8 }
-    ensures none { result ≡ None → EachBelow EndsPrepared cores.now accounts.now (length accounts.now) }
-    ensures some { IfSome result (IsFirstNot EndsPrepared cores.now accounts.now) }
+    ensures none { result ≡ None → EachBelow EndsPrepared accounts.now (length accounts.now) }
+    ensures some { IfSome result (IsFirstNot EndsPrepared accounts.now) }
 {
     for device in 0..accounts.len() {
-        if !ends_prepared(&cores[device], &accounts[device]) {
+        if !ends_prepared(&accounts[device]) {
             return Some(device as u32);
         }
     }
     None
 }
 
-// The first device of which a fault was told, or which is not in its checkpoint.
-fn first_faulty<D: Disk, R: Ranges>(cores: &[Core<D, R>], accounts: &[Part]) -> Option<u32>
-    requires many { length cores.now ≡ length accounts.now }
+// The first device of which a fault was told.
+fn first_faulty(accounts: &[Part]) -> Option<u32>
     requires few { length accounts.now ≤ 8 }
-    ensures none { result ≡ None → EachBelow EndsClean cores.now accounts.now (length accounts.now) }
-    ensures some { IfSome result (IsFirstNot EndsClean cores.now accounts.now) }
+    ensures none { result ≡ None → EachBelow EndsClean accounts.now (length accounts.now) }
+    ensures some { IfSome result (IsFirstNot EndsClean accounts.now) }
 {
     for device in 0..accounts.len() {
-        if !ends_clean(&cores[device], &accounts[device]) {
+        if !ends_clean(&accounts[device]) {
             return Some(device as u32);
         }
     }
@@ -95,24 +90,22 @@ fn first_faulty<D: Disk, R: Ranges>(cores: &[Core<D, R>], accounts: &[Part]) -> 
 }
 
 // How the first sessions ended.
-pub(crate) fn how_prepared<D: Disk, R: Ranges>(cores: &[Core<D, R>], accounts: &[Part]) -> Prepared
-    requires many { length cores.now ≡ length accounts.now }
+pub(crate) fn how_prepared(accounts: &[Part]) -> Prepared
     requires few { length accounts.now ≤ 8 }
-    ensures { AnswersPrepared cores.now accounts.now result }
+    ensures { HowPrepared (length accounts.now) accounts.now result }
 {
-    match first_unprepared(cores, accounts) {
+    match first_unprepared(accounts) {
         None => Prepared::All,
         Some(device) => Prepared::NotAll { device },
     }
 }
 
 // How the second sessions ended.
-pub(crate) fn how_ran<D: Disk, R: Ranges>(cores: &[Core<D, R>], accounts: &[Part]) -> Ran
-    requires many { length cores.now ≡ length accounts.now }
+pub(crate) fn how_ran(accounts: &[Part]) -> Ran
     requires few { length accounts.now ≤ 8 }
-    ensures { AnswersRan cores.now accounts.now result }
+    ensures { HowRan (length accounts.now) accounts.now result }
 {
-    match first_faulty(cores, accounts) {
+    match first_faulty(accounts) {
         None => Ran::Clean,
         Some(device) => Ran::Faulty { device },
     }

@@ -30,18 +30,18 @@ use vold_meta::Keeper;
 /// How the first sessions ended.
 #[derive(Clone, Copy, Debug, PartialEq, Eq)]
 pub enum Prepared {
-    /// Each device is in its checkpoint.
+    /// Each prepare was answered `Done`, and no journal tells a fault of the disk: each device is in its checkpoint.
     All,
-    /// This device is the first that was not prepared, or of which a call failed.
+    /// This device is the first whose prepare was not answered `Done`, or whose journal tells a fault of the disk.
     NotAll { device: u32 },
 }
 
 /// How the second sessions ended.
 #[derive(Clone, Copy, Debug, PartialEq, Eq)]
 pub enum Ran {
-    /// No call of a disk failed, and each device is in its checkpoint.
+    /// No journal tells a fault of the disk: each device is at rest in its checkpoint.
     Clean,
-    /// This device is the first of which a call failed.
+    /// This device is the first whose journal tells a fault of the disk.
     Faulty { device: u32 },
 }
 
@@ -119,8 +119,9 @@ impl<D: Disk + Drop, R: Ranges + Drop> Pair<D, R> {
     /// prepare. Lane l belongs to device l modulo the number of devices. In each turn a number below that of the
     /// devices is drawn: from there on, going round, the first session that is not over makes a turn.
     ///
-    /// `NotAll` names exactly the first device whose journal tells a fault of the disk, or which does not end in its
-    /// checkpoint with its prepare done. `NoMemory` comes before the first step, and all is as it was.
+    /// `NotAll` names exactly the first device whose prepare was not answered `Done`, or whose journal tells a fault of
+    /// the disk. After `All` each device is in its checkpoint. `NoMemory` comes before the first step, and all is as it
+    /// was.
     pub fn prepare(
         &mut self,
         alloc: Global,
@@ -140,14 +141,14 @@ impl<D: Disk + Drop, R: Ranges + Drop> Pair<D, R> {
         self.openings = play(alloc, &mut self.cores, &script, Round::Opening, &mut draws)?;
         self.script = script;
         self.draws = draws;
-        Ok(how_prepared(&self.cores, &self.openings))
+        Ok(how_prepared(&self.openings))
     }
 
     /// Plays the second sessions to their ends: on each device its lanes of the script's other sections, in turns that
     /// the same generator draws.
     ///
-    /// `Faulty` names exactly the first device whose journal tells a fault of the disk, or which does not end in its
-    /// checkpoint. `NoMemory` comes before the first step, and all is as it was.
+    /// `Faulty` names exactly the first device whose journal tells a fault of the disk. After `Clean` each device is at
+    /// rest in its checkpoint. `NoMemory` comes before the first step, and all is as it was.
     pub fn run(&mut self, alloc: Global) -> Result<Ran, NoMemory>
         requires script { MayBeDealt self.old.script }
         requires prepared { WerePrepared self.old.cores }
@@ -166,7 +167,7 @@ impl<D: Disk + Drop, R: Ranges + Drop> Pair<D, R> {
             Round::Later,
             &mut self.draws,
         )?;
-        Ok(how_ran(&self.cores, &self.laters))
+        Ok(how_ran(&self.laters))
     }
 
     /// Commits the devices together, as `bow_pair::decide` does. It takes no memory.
