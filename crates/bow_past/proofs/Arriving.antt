@@ -9,13 +9,12 @@ use Rattle.bow_units.specs.Magics.{IsPlain}
 use Rattle.bow_units.specs.declared.sizes.Geometry.{Geometry}
 use Rattle.bow_disk.specs.Disk.{Content, IsCrash, IsImage, IsShaped}
 use Rattle.bow_disk.specs.Moments.{Tells}
-use Rattle.bow_disk.proofs.Settling.{cut_settled}
 use Rattle.bow_chain.specs.Contents.{Contents, contents_of}
 use Rattle.bow_flat.specs.Flat.{Flat, opening}
 use Rattle.bow_guard.specs.Standing.{StandsFor}
 use Rattle.bow_guard.specs.Cuts.{candidates_of}
 use Rattle.bow_machine.specs.Standing.{IsStanding}
-use Rattle.bow_core.specs.Standing.{StandsIn, StandsOver}
+use Rattle.bow_core.specs.Standing.{StandsIn}
 use Rattle.bow_core.specs.Views.{View}
 use Rattle.bow_history.specs.declared.items.Item.{Item}
 use Rattle.bow_history.specs.Complete.{IsComplete}
@@ -33,7 +32,7 @@ use Rattle.bow_session.proofs.Leading.{as_many, leads_ahead, leads_from}
 use Rattle.bow_play.specs.Beginning.{HasBegun, OpenedOn}
 use Rattle.bow_play.specs.Leading.{PlayLeads, IsOnWay, CanLeave, read_in}
 use Rattle.bow_play.specs.Playing.{IsFresh}
-use Rattle.bow_play.proofs.Ends.{ahead_opened, stands_opened}
+use Rattle.bow_play.proofs.Ends.{ahead_opened, leads_on, standing_told, stands_opened}
 use Rattle.bow_play.proofs.Runs.{begins_at}
 use Rattle.bow_past.specs.Running.{RanBeside}
 use Rattle.bow_past.proofs.Twin.{Twin, IsTwin, cuts_shaped_by, only_now_by, shaped_by}
@@ -139,31 +138,13 @@ module _ {D : Type 0} (stated : D → Option Geometry) (content : D → Option C
 
       -- the disk tells its content
       told : Tells content (λ e. IsStanding s.core.geometry s.core.memory (contents_of e.now) (candidates_of e.candidates) (w.place).flat) s.core.disk
-      told = by (content s.core.disk) refl stands
-        where
-          by : (o : Option Content) → content s.core.disk ≡ o → StandsOver s.core.geometry s.core.memory o (w.place).flat
-              → Tells content (λ e. IsStanding s.core.geometry s.core.memory (contents_of e.now) (candidates_of e.candidates) (w.place).flat) s.core.disk
-          by None at none = absurd none
-          by (Some e) at standing = record { told = e; is = at; holds = standing }
+      told = standing_told content s.core (w.place).flat stands
 
       knows : IsTold stated content moment left faults first (moment old) s t.clock t.at t.count t.calls t.moments told.told
       knows = t.told told.told told.is
 
       now_says : (cut : List (List ℕ)) → CanLeave (content s.core.disk) cut → says (w.place).flat (contents_of cut)
       now_says cut can = w.end idle told.told told.is cut (subst (λ o. CanLeave o cut) told.is can)
-
-      at_start : (cut : List (List ℕ)) → cut ≡ c.now → IsOnWay says c.now s w.place 0 cut
-      at_start cut same = record {
-        front = 0;
-        has = omega arith;
-        within = omega arith;
-        place = beginning (opening c.now);
-        before = refl;
-        after = legal;
-        flat = opening c.now;
-        midway = inl refl;
-        stands = subst (λ i. says (opening c.now) (contents_of i)) (sym same) at_first;
-      }
 
       -- what may be left now
       settled : (late : ℕ) (cut : List (List ℕ)) → t.clock ≤ t.at late → left s.core.disk late cut → CanLeave (content s.core.disk) cut
@@ -213,19 +194,7 @@ module _ {D : Type 0} (stated : D → Option Geometry) (content : D → Option C
           w.item (read_in s) buffers (start - 2) i cut base below pair.low (seen_item (slice_index_or s.moments i 0) (slice_index_or t.moments i 0) cut pair since_left)
 
       leads_by : PlayLeads content moment left says old c s
-      leads_by = record {
-        end = w.place;
-        legal = legal;
-        stands = stands;
-        phase = (told.holds).phases;
-        ever = ever;
-        item = item;
-        now = now_says;
-        settled = λ on cut since_left. elim (ever (moment old) cut (omega arith) since_left) [
-          | inl before ↦ at_start cut (cut_settled c.now c on cut (only_now old c is (moment old) cut (omega arith) before))
-          | inr way ↦ way
-        ];
-      }
+      leads_by = leads_on content moment left only_now says old c is s w.place at_first legal stands ever item now_says
 
     pub plain : IsPlain (slice_index_or c.now 0 [])
     plain = found.plain

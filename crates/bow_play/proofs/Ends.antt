@@ -23,7 +23,7 @@ use Rattle.bow_core.specs.Views.{View}
 use Rattle.bow_history.specs.DiskCuts.{HasCuts, StandsAheadToo, disk_of}
 use Rattle.bow_history.specs.Fits.{Agrees}
 use Rattle.bow_history.specs.Histories.{Disk, LeftSince, Runs, calls_in, journal_of, moments_of}
-use Rattle.bow_history.specs.Journal.{Legal, Plan, beginning}
+use Rattle.bow_history.specs.Journal.{Legal, Place, Plan, beginning}
 use Rattle.bow_history.specs.Promises.{faults_in, held}
 use Rattle.bow_history.specs.Sessions.{Session, Turned, after_turn, call_in}
 use Rattle.bow_history.proofs.Cutting.{low_moments}
@@ -41,10 +41,10 @@ clock_of : (before now : ℕ) → now ≡ max before (min (before + 2) (2 ^ 64 -
 clock_of before now counted = (now - 2, omega (arith, counted), omega (arith, counted))
 
 -- the count of faults was lower before the opening
-rose_before : (a b d : ℕ) → a ≤ b → Rose b d → Rose a d
+pub rose_before : (a b d : ℕ) → a ≤ b → Rose b d → Rose a d
 rose_before a b d le rose = omega (arith, le, rose)
 
-faults_more : (before first told now : ℕ) → before ≤ first → held (first + told) ≤ now → held (before + told) ≤ now
+pub faults_more : (before first told now : ℕ) → before ≤ first → held (first + told) ≤ now → held (before + told) ≤ now
 faults_more before first told now le most = omega (arith, le, most)
 
 -- ----------------------------------------------------------------------------------------------------------------
@@ -60,6 +60,52 @@ ahead_opened g image some bytes plain = (
   stands_opened g image plain,
   λ log spells. absurd (plain (log_has_magic g (contents_of image 0) log (λ i. byte_at (slice_index_or image 0 []) (bytes.each 0 some).are_bytes i) spells)),
 )
+
+-- ----------------------------------------------------------------------------------------------------------------
+-- A device that stands.
+
+-- its disk tells its content
+pub standing_told : {D : Type 0} (content : D → Option Content) (v : View D) (f : Flat) → StandsIn content v f → Tells content (λ e. IsStanding v.geometry v.memory (contents_of e.now) (candidates_of e.candidates) f) v.disk
+standing_told content v f stands = by (content v.disk) refl stands
+  where
+    by : (o : Option Content) → content v.disk ≡ o → StandsOver v.geometry v.memory o f → Tells content (λ e. IsStanding v.geometry v.memory (contents_of e.now) (candidates_of e.candidates) f) v.disk
+    by None at none = absurd none
+    by (Some e) at standing = record { told = e; is = at; holds = standing }
+
+-- it leads from the opening, by what its cuts leave
+pub leads_on : {D : Type 0} (content : D → Option Content) (moment : D → ℕ) (left : D → ℕ → List (List ℕ) → Type 0)
+    (only_now : (d : D) (c : Content) → content d ≡ Some c → (t : ℕ) (image : List (List ℕ)) → moment d ≤ t → left d t image → IsCrash c.candidates image)
+    (says : Flat → Contents → Type 0) (old : D) (c : Content) → content old ≡ Some c → (s : Run D) (place : Place) → says (opening c.now) (contents_of c.now)
+    → Legal (plan_in s) (read_in s) s.journal (beginning (opening c.now)) place → StandsIn content s.core place.flat
+    → ((since : ℕ) (cut : List (List ℕ)) → since ≤ moment old → left s.core.disk since cut → left old since cut ⊎ IsOnWay says c.now s place 0 cut)
+    → ((i : ℕ) (cut : List (List ℕ)) → i < length s.journal → slice_index_or s.moments i 0 < 2 ^ 64 - 1 → left s.core.disk (moment old + slice_index_or s.moments i 0) cut → IsOnWay says c.now s place (suc i) cut)
+    → ((cut : List (List ℕ)) → CanLeave (content s.core.disk) cut → says place.flat (contents_of cut)) → PlayLeads content moment left says old c s
+leads_on content moment left only_now says old c is s place at_first legal stands ever item now = record {
+  end = place;
+  legal = legal;
+  stands = stands;
+  phase = ((standing_told content s.core place.flat stands).holds).phases;
+  ever = ever;
+  item = item;
+  now = now;
+  settled = λ on cut since_left. elim (ever (moment old) cut (omega arith) since_left) [
+    | inl before ↦ at_start cut (cut_settled c.now c on cut (only_now old c is (moment old) cut (omega arith) before))
+    | inr way ↦ way
+  ];
+}
+  where
+    at_start : (cut : List (List ℕ)) → cut ≡ c.now → IsOnWay says c.now s place 0 cut
+    at_start cut same = record {
+      front = 0;
+      has = omega arith;
+      within = omega arith;
+      place = beginning (opening c.now);
+      before = refl;
+      after = legal;
+      flat = opening c.now;
+      midway = inl refl;
+      stands = subst (λ i. says (opening c.now) (contents_of i)) (sym same) at_first;
+    }
 
 -- ----------------------------------------------------------------------------------------------------------------
 -- The session that is over.
@@ -186,28 +232,10 @@ module _ {D : Type 0} (stated : D → Option Geometry) (content : D → Option C
 
       -- the disk tells its content
       told : Tells content (λ e. IsStanding s.core.geometry s.core.memory (contents_of e.now) (candidates_of e.candidates) (w.place).flat) s.core.disk
-      told = by (content s.core.disk) refl stands
-        where
-          by : (o : Option Content) → content s.core.disk ≡ o → StandsOver s.core.geometry s.core.memory o (w.place).flat
-              → Tells content (λ e. IsStanding s.core.geometry s.core.memory (contents_of e.now) (candidates_of e.candidates) (w.place).flat) s.core.disk
-          by None at none = absurd none
-          by (Some e) at standing = record { told = e; is = at; holds = standing }
+      told = standing_told content s.core (w.place).flat stands
 
       now_says : (cut : List (List ℕ)) → CanLeave (content s.core.disk) cut → says (w.place).flat (contents_of cut)
       now_says cut can = w.end idle told.told told.is cut (subst (λ o. CanLeave o cut) told.is can)
-
-      at_start : (cut : List (List ℕ)) → cut ≡ c.now → IsOnWay says c.now s w.place 0 cut
-      at_start cut same = record {
-        front = 0;
-        has = omega arith;
-        within = omega arith;
-        place = beginning (opening c.now);
-        before = refl;
-        after = legal;
-        flat = opening c.now;
-        midway = inl refl;
-        stands = subst (λ i. says (opening c.now) (contents_of i)) (sym same) at_first;
-      }
 
       ever : (since : ℕ) (cut : List (List ℕ)) → since ≤ moment old → left s.core.disk since cut → left old since cut ⊎ IsOnWay says c.now s w.place 0 cut
       ever since cut low since_left =
@@ -227,19 +255,7 @@ module _ {D : Type 0} (stated : D → Option Geometry) (content : D → Option C
           (inr (omega (arith, clock.1, after), (moment old + slice_index_or s.moments i 0, omega (arith, clock.2), since_left)))
 
       leads_by : PlayLeads content moment left says old c s
-      leads_by = record {
-        end = w.place;
-        legal = legal;
-        stands = stands;
-        phase = (told.holds).phases;
-        ever = ever;
-        item = item;
-        now = now_says;
-        settled = λ on cut since_left. elim (ever (moment old) cut (omega arith) since_left) [
-          | inl before ↦ at_start cut (cut_settled c.now c on cut (only_now old c is (moment old) cut (omega arith) before))
-          | inr way ↦ way
-        ];
-      }
+      leads_by = leads_on content moment left only_now says old c is s w.place at_first legal stands ever item now_says
 
     pub plain : IsPlain (slice_index_or c.now 0 [])
     plain = found.plain
