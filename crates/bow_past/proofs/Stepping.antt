@@ -19,7 +19,7 @@ use Rattle.bow_past.specs.Inside.{FoundBy, LooksBy, ReadsBy}
 use Rattle.bow_past.specs.Reach.{IsWanted}
 use Rattle.bow_past.specs.Readings.{Reading, KeepsLog, can_read, kept_of, missing_below, next_block, past_logs, with_ended}
 use Rattle.bow_past.specs.declared.ended.Ended.{Ended}
-use Rattle.bow_past.specs.Steps.{IsPastStep, ReadsBeside}
+use Rattle.bow_past.specs.Steps.{IsPastStep, LooksForLog, ReadsBeside}
 use Rattle.bow_past.specs.declared.ended.PastStep.{PastStep}
 use Rattle.bow_past.specs.declared.ended.PastStep.TheVariants as steps
 use Rattle.bow_past.proofs.Beside.{log_is}
@@ -51,40 +51,26 @@ some_log g m s phase shown = go m.log refl shown
 
 module _ {D : Type 0} (stated : D → Option Geometry) (content : D → Option Content) (moment : D → ℕ) (left : D → ℕ → List (List ℕ) → Type 0) (faults : D → ℕ) (p : Reading) (v : Run D) (l : Fields)
     (some : v.core.memory.log ≡ Some (generation_of p.geometry l)) (can : can_read p v.core.memory.phase ≡ true) where
+  looks_for : (w : Run D) (wanted place : ℕ) → missing_below (kept_of p) l.sequence ≡ Some wanted → place ≡ pass (generation_of p.geometry l).entries (past_logs p.geometry (kept_of p) (wanted + 1) (l.sequence - (wanted + 1)) 0)
+      → (block : List ℕ) → ReadsBeside stated content moment left faults place (Gave block) v w → LooksForLog stated content moment left faults p v w
+  looks_for w wanted place missing at block reads = record {
+    log = generation_of p.geometry l;
+    memory = some;
+    wanted = wanted;
+    missing = missing;
+    block = block;
+    reads = subst (λ x. ReadsBeside stated content moment left faults x (Gave block) v w) at reads;
+  }
+
   pub looks_step : (result : Result PastStep NoMemory) (q : Reading) (w : Run D) (wanted place : ℕ) → missing_below (kept_of p) l.sequence ≡ Some wanted
       → place ≡ pass (generation_of p.geometry l).entries (past_logs p.geometry (kept_of p) (wanted + 1) (l.sequence - (wanted + 1)) 0)
       → LooksBy stated content moment left faults p wanted place v result q w → IsPastStep stated content moment left faults p v result q w
+  unfolding looks_for
   looks_step (Ok steps.Idle) q w wanted place missing at looks = absurd looks
-  looks_step (Ok steps.Working) q w wanted place missing at looks = (
-    can,
-    record {
-      log = generation_of p.geometry l;
-      memory = some;
-      wanted = wanted;
-      missing = missing;
-      block = looks.0;
-      reads = subst (λ x. ReadsBeside stated content moment left faults x (Gave looks.0) v w) at looks.2;
-    },
-    looks.1,
-    looks.3,
-    looks.4,
-  )
+  looks_step (Ok steps.Working) q w wanted place missing at looks = (can, looks_for w wanted place missing at looks.0 looks.2, looks.1, looks.3, looks.4)
   looks_step (Ok (steps.Got b)) q w wanted place missing at looks = absurd looks
   looks_step (Ok (steps.Failed b)) q w wanted place missing at looks = (can, place, looks)
-  looks_step (Ok (steps.Strange b)) q w wanted place missing at looks = (
-    can,
-    looks.0,
-    record {
-      log = generation_of p.geometry l;
-      memory = some;
-      wanted = wanted;
-      missing = missing;
-      block = looks.1;
-      reads = subst (λ x. ReadsBeside stated content moment left faults x (Gave looks.1) v w) at looks.2;
-    },
-    looks.3,
-    looks.4,
-  )
+  looks_step (Ok (steps.Strange b)) q w wanted place missing at looks = (can, looks.0, looks_for w wanted place missing at looks.1 looks.2, looks.3, looks.4)
   looks_step (Err none) q w wanted place missing at looks = looks
 
   pub reads_step : (result : PastStep) (q : Reading) (w : Run D) (place : ℕ) → next_block p < p.geometry.blocks → missing_below (kept_of p) l.sequence ≡ None

@@ -1,4 +1,4 @@
-use Rattle.std.proofs.Common.{◌≡◌, ◌+◌, ◌-◌, ◌<◌, ◌%◌, inl, inr, ℕ, suc, zero, Bool, true, false, None, Some, arith, refl, sym, ap, ◌∙◌, subst}
+use Rattle.std.proofs.Common.{◌≡◌, ◌+◌, ◌-◌, ◌<◌, ◌≤◌, ◌%◌, inl, inr, ℕ, suc, zero, Bool, true, false, None, Some, arith, refl, sym, ap, ◌∙◌, subst}
 use Rattle.std.proofs.lemmas.Bool.{cases_Bool, false≢true}
 use Rattle.bow_units.specs.Draws.{drawn_value, next_number}
 use Rattle.bow_history.specs.declared.items.Actor.{Actor}
@@ -30,6 +30,18 @@ module _ (g : Over) (c : After-chosen g) where
   value : c.draw-drawn.result ≡ drawn_value (next_number c.reads.draws) % (lanes + 3)
   value = c.draw-drawn.ensures.value ∙ ap (λ n. drawn_value n % (c.lanes-lanes.result + 3)) c.draw-drawn.ensures.number ∙ ap (λ l. drawn_value (next_number c.reads.draws) % (l + 3)) c.lanes-lanes.ensures.is
 
+  -- the number that was chosen
+  module _ (n : ℕ) (is : first_from ready (lanes + 3) c.draw-drawn.result (lanes + 3) ≡ Some n) where
+    first : (ready n ≡ true) × (n < lanes + 3)
+    first = first_ready ready (lanes + 3) c.draw-drawn.result (lanes + 3) n below is
+
+    -- past those of the session it is the reader's
+    last : c.lanes-lanes.result + 2 ≤ n → n ≡ lanes + 2
+    last past = omega (arith, past, same_lanes, first.1)
+
+    can : c.lanes-lanes.result + 2 ≤ n → is_reading c.reads.past c.reads.session.core.memory.phase ≡ true
+    can past = sym (reader_at (plan_in c.reads.session) (state_in c.reads.session) (is_reading c.reads.past c.reads.session.core.memory.phase) n (last past)) ∙ first.0
+
 pub returns-in_default-clause-none : goal.returns-in_default-clause-none
 returns-in_default-clause-none g c =
     let k = (goal.at.returns-in_default-clause-none g c).After-chosen in
@@ -48,11 +60,11 @@ pub returns-then-number-lanes-clause-ready : goal.returns-then-number-lanes-clau
 returns-then-number-lanes-clause-ready g c =
     let k = (goal.at.returns-then-number-lanes-clause-ready g c).After-chosen in
     let v = c.reads.session in
-    let first = first_ready (ready g k) (lanes g k + 3) c.draw-drawn.result (lanes g k + 3) c.in-Some.number (below g k) (sym c.in-Some.ensures.first) in
+    let chosen = first g k c.in-Some.number (sym c.in-Some.ensures.first) in
     let same = same_lanes g k in
     let low : c.in-Some.number < lanes g k + 2 = omega (arith, c.if-number-lanes.true, same) in
     ap (is_actor_ready (plan_in v) (state_in v)) (c.actor_at.ensures (plan_in v) (same_lanes g k))
-    ∙ sym (session_at (plan_in v) (state_in v) (is_reading c.reads.past v.core.memory.phase) c.in-Some.number low) ∙ first.0
+    ∙ sym (session_at (plan_in v) (state_in v) (is_reading c.reads.past v.core.memory.phase) c.in-Some.number low) ∙ chosen.0
 
 pub returns-then-number-lanes-clause-leads : goal.returns-then-number-lanes-clause-leads
 returns-then-number-lanes-clause-leads g c m t mid end steps plays =
@@ -70,22 +82,14 @@ returns-then-number-lanes-clause-leads g c m t mid end steps plays =
 pub read_once-requires-clause-ready : goal.read_once-requires-clause-ready
 read_once-requires-clause-ready g c =
     let k = (goal.at.read_once-requires-clause-ready g c).After-chosen in
-    let v = c.reads.session in
-    let first = first_ready (ready g k) (lanes g k + 3) c.draw-drawn.result (lanes g k + 3) c.in-Some.number (below g k) (sym c.in-Some.ensures.first) in
-    let same = same_lanes g k in
-    let last : c.in-Some.number ≡ lanes g k + 2 = omega (arith, c.if-number-lanes.false, same, first.1) in
-    sym (reader_at (plan_in v) (state_in v) (is_reading c.reads.past v.core.memory.phase) c.in-Some.number last) ∙ first.0
+    can g k c.in-Some.number (sym c.in-Some.ensures.first) c.if-number-lanes.false
 
 pub reads-smaller : goal.reads-smaller
 reads-smaller g c =
     let k = (goal.at.reads-smaller g c).After-chosen in
     let v = c.reads.session in
     let w = c.read_once.new.session in
-    let first = first_ready (ready g k) (lanes g k + 3) c.draw-drawn.result (lanes g k + 3) c.in-Some.number (below g k) (sym c.in-Some.ensures.first) in
-    let same = same_lanes g k in
-    let last : c.in-Some.number ≡ lanes g k + 2 = omega (arith, c.if-number-lanes.false, same, first.1) in
-    let can = sym (reader_at (plan_in v) (state_in v) (is_reading c.reads.past v.core.memory.phase) c.in-Some.number last) ∙ first.0 in
-    let less = reads_less g.D.Disk.stated g.D.Disk.content g.D.Disk.moment g.D.Disk.left_since g.D.Disk.faults c.reads.past v c.read_once.new.past w can c.read_once.ensures.reads in
+    let less = reads_less g.D.Disk.stated g.D.Disk.content g.D.Disk.moment g.D.Disk.left_since g.D.Disk.faults c.reads.past v c.read_once.new.past w (can g k c.in-Some.number (sym c.in-Some.ensures.first) c.if-number-lanes.false) c.read_once.ensures.reads in
     let still = reads_still g.D.Disk.stated g.D.Disk.content g.D.Disk.moment g.D.Disk.left_since g.D.Disk.faults c.reads.past v c.read_once.new.past w c.read_once.ensures.reads in
     subst (λ l. reading_left c.read_once.new.past l < reading_left c.reads.past v.core.memory.log) (sym (ap (λ (x : Run g.row.D.Denot). x.core.memory.log) still)) less
 
@@ -94,9 +98,6 @@ reads-preserved g c =
     let k = (goal.at.reads-preserved g c).After-chosen in
     let v = c.reads.session in
     let w = c.read_once.new.session in
-    let first = first_ready (ready g k) (lanes g k + 3) c.draw-drawn.result (lanes g k + 3) c.in-Some.number (below g k) (sym c.in-Some.ensures.first) in
-    let same = same_lanes g k in
-    let last : c.in-Some.number ≡ lanes g k + 2 = omega (arith, c.if-number-lanes.false, same, first.1) in
     let still = reads_still g.D.Disk.stated g.D.Disk.content g.D.Disk.moment g.D.Disk.left_since g.D.Disk.faults c.reads.past v c.read_once.new.past w c.read_once.ensures.reads in (
       c.read_once.ensures.beside,
       still ∙ ap (λ (x : Run g.row.D.Denot). record x { core = record x.core { disk = w.core.disk; calls = w.core.calls } }) c.reads.invariant.1,
@@ -105,7 +106,7 @@ reads-preserved g c =
         c.read_once.new.past,
         w,
         ap (λ j. first_from (ready g k) (lanes g k + 3) j (lanes g k + 3)) (sym (value g k)) ∙ sym c.in-Some.ensures.first,
-        inl (last, c.read_once.ensures.reads),
+        inl (last g k c.in-Some.number (sym c.in-Some.ensures.first) c.if-number-lanes.false, c.read_once.ensures.reads),
         subst (λ y. PlaysBeside g.D.Disk.stated g.D.Disk.content g.D.Disk.moment g.D.Disk.left_since g.D.Disk.faults m y c.read_once.new.past w t end) c.draw-drawn.ensures.number plays,
       ),
     )
