@@ -36,6 +36,7 @@ use Rattle.bow_receipts.specs.Hands.{IsHeld, IsInHand, hand_at, ticket_in, ticke
 use Rattle.bow_receipts.specs.Served.{IsKept, IsFrontOf, IsSeated, IsServed, Serves, answered_of, count_of, held_of, view_under}
 use Rattle.bow_receipts.proofs.Lists.{below_one, filter_more, filter_none, filter_other, front_at, index_set_here, index_set_there, more_at, over_more, set_length, speaks_for_all}
 use Rattle.bow_receipts.proofs.OpAsks.{blank_twice, first_blank, fits_whole, for_blank, room_blank}
+use Rattle.bow_receipts.proofs.Staying.{kept_still, serves_still}
 use Rattle.bow_receipts.proofs.Serving.{asked_few, asked_lane, asked_next, asks_now, memory, seat, sound, st}
 use Rattle.bow_receipts.proofs.Turns.{cuts_on, did_nothing, fine_on, push, session_on}
 
@@ -246,73 +247,35 @@ module _ {D R : Type 0} (stated : D → Option Geometry) (content : D → Option
 
       -- and what lies under the lock serves its callers still
       pub serves_admitted : Serves stated content moment left faults g lanes allowed table begins new
-      serves_admitted = record {
-        first = k.first;
-        is = k.is;
-        begun = k.begun;
-        sizes = ap (λ (v : View D). v.geometry) core_is ∙ k.sizes;
-        stated_is = ap (λ (v : View D). stated v.disk) core_is ∙ k.stated_is;
-        places = ap (λ (v : View D). v.places) core_is ∙ k.places;
-        table_is = table_is ∙ k.table_is;
-        lanes_are = k.lanes_are;
-        few = k.few;
-        kept = subst (λ v. IsKept g lanes allowed v new.hands.items new.journal.items new.calls.items) (sym view_is)
-            (subst (λ h. IsKept g lanes allowed (after_take s.server.view lane number (blank op)) h new.journal.items new.calls.items) (sym hands_are)
-            (subst (λ j. IsKept g lanes allowed (after_take s.server.view lane number (blank op)) (slice_set s.hands.items lane (Some hand)) j.items new.calls.items) (sym journal_is)
-            (subst (λ c. IsKept g lanes allowed (after_take s.server.view lane number (blank op)) (slice_set s.hands.items lane (Some hand)) s.journal.items c.items) (sym calls_are) kept_now)));
-        served = subst (λ v. IsServed content moment left faults g lanes k.first v new.server.view.given new.server.view.jobs new.hands.items new.journal.items) (sym core_is)
-            (subst (λ (v : SeatView Op Answer). IsServed content moment left faults g lanes k.first core v.given v.jobs new.hands.items new.journal.items) (sym view_is)
-            (subst (λ h. IsServed content moment left faults g lanes k.first core given next_jobs h new.journal.items) (sym hands_are)
-            (subst (λ j. IsServed content moment left faults g lanes k.first core given next_jobs (slice_set s.hands.items lane (Some hand)) j.items) (sym journal_is) served_now)));
-        later = (let e = ap (λ (v : View D). faults v.disk) core_is in let low = k.later in omega (arith, e, low));
-        admitted = ap (λ (v : View D). v.admitted) core_is ∙ (
-            let old = k.admitted in
-            let more = over_more (count_of asked) (count_of next) lanes lane inside count_now (λ l apart. ap length (asked_there l apart)) in
-            let same : over_lanes (count_of (asked_of lanes new.server.view.given new.server.view.jobs)) lanes ≡ over_lanes (count_of next) lanes = ap (λ (v : SeatView Op Answer). over_lanes (count_of (asked_of lanes v.given v.jobs)) lanes) view_is in
-            omega (arith, old, more, same));
-        total = k.total;
-        journal_room = (let e = ap (λ j. vec_capacity j) journal_is in let cap = k.journal_room in omega (arith, e, cap));
-        calls_room = (let e = ap (λ c. vec_capacity c) calls_are in let cap = k.calls_room in omega (arith, e, cap));
-      }
+      serves_admitted = serves_still stated content moment left faults g lanes allowed table begins s k new (ap (λ (v : View D). v.geometry) core_is) (ap (λ (v : View D). stated v.disk) core_is ∙ k.stated_is) (ap (λ (v : View D). v.places) core_is)
+          (let e = ap (λ (v : View D). faults v.disk) core_is in omega (arith, e)) table_is (ap (λ j. vec_capacity j) journal_is) (ap (λ c. vec_capacity c) calls_are)
+          (subst (λ v. IsKept g lanes allowed v new.hands.items new.journal.items new.calls.items) (sym view_is)
+          (subst (λ h. IsKept g lanes allowed (after_take s.server.view lane number (blank op)) h new.journal.items new.calls.items) (sym hands_are)
+          (subst (λ j. IsKept g lanes allowed (after_take s.server.view lane number (blank op)) (slice_set s.hands.items lane (Some hand)) j.items new.calls.items) (sym journal_is)
+          (subst (λ c. IsKept g lanes allowed (after_take s.server.view lane number (blank op)) (slice_set s.hands.items lane (Some hand)) s.journal.items c.items) (sym calls_are) kept_now))))
+          (subst (λ v. IsServed content moment left faults g lanes k.first v new.server.view.given new.server.view.jobs new.hands.items new.journal.items) (sym core_is)
+          (subst (λ (v : SeatView Op Answer). IsServed content moment left faults g lanes k.first core v.given v.jobs new.hands.items new.journal.items) (sym view_is)
+          (subst (λ h. IsServed content moment left faults g lanes k.first core given next_jobs h new.journal.items) (sym hands_are)
+          (subst (λ j. IsServed content moment left faults g lanes k.first core given next_jobs (slice_set s.hands.items lane (Some hand)) j.items) (sym journal_is) served_now))))
+          (ap (λ (v : View D). v.admitted) core_is ∙ (
+          let old = k.admitted in
+          let more = over_more (count_of asked) (count_of next) lanes lane inside count_now (λ l apart. ap length (asked_there l apart)) in
+          let same : over_lanes (count_of (asked_of lanes new.server.view.given new.server.view.jobs)) lanes ≡ over_lanes (count_of next) lanes = ap (λ (v : SeatView Op Answer). over_lanes (count_of (asked_of lanes v.given v.jobs)) lanes) view_is in
+          omega (arith, old, more, same)))
 
   -- and so it does where the seat has looked alone
   pub serves_looked : (lane word : ℕ) (new : Service D R) → new.core ≡ s.core → new.server.view ≡ looked lane word s.server.view → new.server.table ≡ s.server.table → new.hands ≡ s.hands → new.journal ≡ s.journal → new.calls ≡ s.calls
       → Serves stated content moment left faults g lanes allowed table begins new
-  serves_looked lane word new core_is view_is table_is hands_are journal_is calls_are = record {
-    first = k.first;
-    is = k.is;
-    begun = k.begun;
-    sizes = ap (λ (v : View D). v.geometry) core_is ∙ k.sizes;
-    stated_is = ap (λ (v : View D). stated v.disk) core_is ∙ k.stated_is;
-    places = ap (λ (v : View D). v.places) core_is ∙ k.places;
-    table_is = table_is ∙ k.table_is;
-    lanes_are = k.lanes_are;
-    few = k.few;
-    kept = subst (λ v. IsKept g lanes allowed v new.hands.items new.journal.items new.calls.items) (sym view_is)
-        (subst (λ h. IsKept g lanes allowed (looked lane word s.server.view) h.items new.journal.items new.calls.items) (sym hands_are)
-        (subst (λ j. IsKept g lanes allowed (looked lane word s.server.view) s.hands.items j.items new.calls.items) (sym journal_is)
-        (subst (λ c. IsKept g lanes allowed (looked lane word s.server.view) s.hands.items s.journal.items c.items) (sym calls_are) (record {
-          seats = (k.kept).seats;
-          speaks = (k.kept).speaks;
-          servers = (k.kept).servers;
-          size = (k.kept).size;
-          in_hand = (k.kept).in_hand;
-          once = (k.kept).once;
-          numbers = (k.kept).numbers;
-          fit = (k.kept).fit;
-          within = (k.kept).within;
-          blocks = (k.kept).blocks;
-          entries = (k.kept).entries;
-          of_journal = (k.kept).of_journal;
-          count = (k.kept).count;
-        }))));
-    served = subst (λ v. IsServed content moment left faults g lanes k.first v new.server.view.given new.server.view.jobs new.hands.items new.journal.items) (sym core_is)
-        (subst (λ (v : SeatView Op Answer). IsServed content moment left faults g lanes k.first s.core v.given v.jobs new.hands.items new.journal.items) (sym view_is)
-        (subst (λ h. IsServed content moment left faults g lanes k.first s.core given jobs h.items new.journal.items) (sym hands_are)
-        (subst (λ j. IsServed content moment left faults g lanes k.first s.core given jobs s.hands.items j.items) (sym journal_is) k.served)));
-    later = (let e = ap (λ (v : View D). faults v.disk) core_is in let low = k.later in omega (arith, e, low));
-    admitted = ap (λ (v : View D). v.admitted) core_is ∙ k.admitted ∙ ap (λ (v : SeatView Op Answer). (k.first).admitted + over_lanes (count_of (asked_of lanes v.given v.jobs)) lanes) (sym view_is);
-    total = k.total;
-    journal_room = (let e = ap (λ j. vec_capacity j) journal_is in let cap = k.journal_room in omega (arith, e, cap));
-    calls_room = (let e = ap (λ c. vec_capacity c) calls_are in let cap = k.calls_room in omega (arith, e, cap));
-  }
+  serves_looked lane word new core_is view_is table_is hands_are journal_is calls_are =
+      serves_still stated content moment left faults g lanes allowed table begins s k new (ap (λ (v : View D). v.geometry) core_is) (ap (λ (v : View D). stated v.disk) core_is ∙ k.stated_is) (ap (λ (v : View D). v.places) core_is)
+      (let e = ap (λ (v : View D). faults v.disk) core_is in omega (arith, e)) table_is (ap (λ j. vec_capacity j) journal_is) (ap (λ c. vec_capacity c) calls_are)
+      (subst (λ v. IsKept g lanes allowed v new.hands.items new.journal.items new.calls.items) (sym view_is)
+      (subst (λ h. IsKept g lanes allowed (looked lane word s.server.view) h.items new.journal.items new.calls.items) (sym hands_are)
+      (subst (λ j. IsKept g lanes allowed (looked lane word s.server.view) s.hands.items j.items new.calls.items) (sym journal_is)
+      (subst (λ c. IsKept g lanes allowed (looked lane word s.server.view) s.hands.items s.journal.items c.items) (sym calls_are)
+      (kept_still g lanes allowed s.server.view s.hands.items s.journal.items s.calls.items k.kept (s.server.view.looks + 1) lane word s.journal.items (k.kept).of_journal)))))
+      (subst (λ v. IsServed content moment left faults g lanes k.first v new.server.view.given new.server.view.jobs new.hands.items new.journal.items) (sym core_is)
+      (subst (λ (v : SeatView Op Answer). IsServed content moment left faults g lanes k.first s.core v.given v.jobs new.hands.items new.journal.items) (sym view_is)
+      (subst (λ h. IsServed content moment left faults g lanes k.first s.core given jobs h.items new.journal.items) (sym hands_are)
+      (subst (λ j. IsServed content moment left faults g lanes k.first s.core given jobs s.hands.items j.items) (sym journal_is) k.served))))
+      (ap (λ (v : View D). v.admitted) core_is ∙ k.admitted ∙ ap (λ (v : SeatView Op Answer). (k.first).admitted + over_lanes (count_of (asked_of lanes v.given v.jobs)) lanes) (sym view_is))

@@ -11,5 +11,6 @@ pub mod Passing
 pub mod Rests
 pub mod Sectioning
 pub mod Serving
+pub mod Staying
 pub mod Sums
 pub mod Turns

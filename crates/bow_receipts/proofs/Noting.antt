@@ -25,7 +25,7 @@ use Rattle.bow_history.specs.declared.items.Item.TheVariants as items
 use Rattle.bow_history.specs.Histories.{session_after}
 use Rattle.bow_history.specs.Journal.{Plan}
 use Rattle.bow_history.specs.Promises.{items as listed, more}
-use Rattle.bow_history.specs.Sessions.{Session, Turned, Steps, begun, lane_of, answered_in, told_to, after_turn, item_of, item_in, call_in, IsFor}
+use Rattle.bow_history.specs.Sessions.{Session, Turned, Steps, lane_of, answered_in, told_to, after_turn, item_of, item_in, call_in, IsFor}
 use Rattle.bow_session.specs.Runs.{begun_over}
 use Rattle.bow_session.proofs.Running.{on_device}
 use Rattle.bow_tags.specs.declared.view.Entry.{Entry}
@@ -45,7 +45,8 @@ use Rattle.bow_receipts.specs.Served.{IsKept, HaveBlocksRead, IsFrontOf, IsSeate
 use Rattle.bow_receipts.proofs.Calls.{answered_more, got_more, wrote_more}
 use Rattle.bow_receipts.proofs.Lists.{Below, at_within, filter_at, in_filter, in_single, below_next, below_other, filter_in, filter_more, filter_other, filter_out, index_set_here, index_set_there, map_more, more_at, over_equal, over_more, set_length}
 use Rattle.bow_receipts.proofs.OpAsks.{for_ask, for_blocks, read_front}
-use Rattle.bow_receipts.proofs.Serving.{HandOf, IsOfWaiting, actor_for, after_is, answered_item, asked_lane, asks_now, fits_ask, got_item, hand_of, item_is, lanes_are, may, memory, same_lane, seat, sizes_are, sound, st, waits, wrote_item}
+use Rattle.bow_receipts.proofs.Staying.{kept_still, serves_still}
+use Rattle.bow_receipts.proofs.Serving.{HandOf, IsOfWaiting, actor_for, after_is, answered_item, asked_lane, asks_now, fits_ask, got_item, hand_of, item_is, may, memory, same_lane, seat, sizes_are, sound, st, waits, wrote_item}
 use Rattle.bow_receipts.proofs.Turns.{cuts_on, did_step, fine_on, push, session_on}
 
 -- one moment for each item
@@ -161,26 +162,13 @@ module _ {D R : Type 0} (stated : D → Option Geometry) (content : D → Option
       pub calls_room : vec_capacity new.calls ≡ vec_capacity s.calls
 
     pub serves_on : (extra : List Item) → Goes extra → Serves stated content moment left faults g lanes allowed table begins new
-    serves_on extra n = record {
-      first = k.first;
-      is = k.is;
-      begun = k.begun;
-      sizes = ap (λ (v : View D). v.geometry) n.core_is ∙ step.geometry ∙ k.sizes;
-      stated_is = ap (λ (v : View D). stated v.disk) n.core_is ∙ (step.made).sizes ∙ ap Some k.sizes;
-      places = ap (λ (v : View D). v.places) n.core_is ∙ step.places ∙ k.places;
-      table_is = n.table_is ∙ k.table_is;
-      lanes_are = k.lanes_are;
-      few = k.few;
-      kept = n.kept;
-      served = subst (λ (v : View D). IsServed content moment left faults g lanes k.first v new.server.view.given new.server.view.jobs new.hands.items new.journal.items) (sym n.core_is)
-          (served_on new.server.view.given new.server.view.jobs new.hands.items extra new.journal.items n.same n.goes n.extra_is n.tickets n.numbers n.bytes);
-      later = (let e = ap (λ (v : View D). faults v.disk) n.core_is in let up = (step.made).later in let low = k.later in omega (arith, e, up, low));
-      admitted = ap (λ (v : View D). v.admitted) n.core_is ∙ step.admitted ∙ k.admitted
-          ∙ ap (λ n. (k.first).admitted + n) (sym (over_equal (count_of asked) (count_of (asked_of lanes new.server.view.given new.server.view.jobs)) lanes (λ l. ap length (n.same l))));
-      total = k.total;
-      journal_room = (let e = n.journal_room in let cap = k.journal_room in omega (arith, e, cap));
-      calls_room = (let e = n.calls_room in let cap = k.calls_room in omega (arith, e, cap));
-    }
+    serves_on extra n =
+        serves_still stated content moment left faults g lanes allowed table begins s k new (ap (λ (v : View D). v.geometry) n.core_is ∙ step.geometry) (ap (λ (v : View D). stated v.disk) n.core_is ∙ (step.made).sizes ∙ ap Some k.sizes) (ap (λ (v : View D). v.places) n.core_is ∙ step.places)
+        (let e = ap (λ (v : View D). faults v.disk) n.core_is in let up = (step.made).later in omega (arith, e, up)) n.table_is n.journal_room n.calls_room n.kept
+        (subst (λ (v : View D). IsServed content moment left faults g lanes k.first v new.server.view.given new.server.view.jobs new.hands.items new.journal.items) (sym n.core_is)
+        (served_on new.server.view.given new.server.view.jobs new.hands.items extra new.journal.items n.same n.goes n.extra_is n.tickets n.numbers n.bytes))
+        (ap (λ (v : View D). v.admitted) n.core_is ∙ step.admitted ∙ k.admitted
+        ∙ ap (λ n. (k.first).admitted + n) (sym (over_equal (count_of asked) (count_of (asked_of lanes new.server.view.given new.server.view.jobs)) lanes (λ l. ap length (n.same l)))))
 
     -- a step that answers nothing
     still_goes : (extra : List Item) → IsStill (record s { core = core }) new → new.journal.items ≡ s.journal.items ++ extra
@@ -202,21 +190,8 @@ module _ {D R : Type 0} (stated : D → Option Geometry) (content : D → Option
               ((seat stated content moment left faults g lanes allowed table begins s k plan asks).bytes i x (ap (λ (v : SeatView Op Answer). slice_get v.given i) (sym view) ∙ at));
           kept = subst (λ v. IsKept g lanes allowed v new.hands.items new.journal.items new.calls.items) (sym view) (
               subst (λ h. IsKept g lanes allowed s.server.view h new.journal.items new.calls.items) (sym n.hands) (
-              subst (λ c. IsKept g lanes allowed s.server.view s.hands.items new.journal.items c) (sym n.calls) (record {
-                seats = (k.kept).seats;
-                speaks = (k.kept).speaks;
-                servers = (k.kept).servers;
-                size = (k.kept).size;
-                in_hand = (k.kept).in_hand;
-                once = (k.kept).once;
-                numbers = (k.kept).numbers;
-                fit = (k.kept).fit;
-                within = (k.kept).within;
-                blocks = (k.kept).blocks;
-                entries = (k.kept).entries;
-                of_journal = calls;
-                count = (k.kept).count;
-              })));
+              subst (λ c. IsKept g lanes allowed s.server.view s.hands.items new.journal.items c) (sym n.calls)
+              (kept_still g lanes allowed s.server.view s.hands.items s.journal.items s.calls.items k.kept s.server.view.looks s.server.view.at s.server.view.found new.journal.items calls)));
           journal_room = n.journal_room;
           calls_room = n.calls_room;
         }
