@@ -107,6 +107,13 @@ in_section script lane k section at n low high =
 pub section_at : (items script : List (List (List Line))) (k : ℕ) (section : List (List Line)) → items ≡ script → k < length script → section ≡ get_or items k section → slice_get script k ≡ Some section
 section_at items script k section is inside read = ap (λ (s : List (List (List Line))). slice_get s k) (sym is) ∙ slice_get_read items (length items) k section refl (subst (λ (s : List (List (List Line))). k < length s) (sym is) inside) read
 
+-- where the sections are gone through one by one
+pub here_more : (script : List (List (List Line))) (k lane : ℕ) (section : List (List Line)) → k < length script → section ≡ get_or script k section → requests_before script (k + 1) lane ≡ requests_before script k lane + length (section_lines section lane)
+here_more script k lane section on is = before_more script k lane section (section_at script script k section refl on is)
+
+pub all_counted : (items script : List (List (List Line))) (k lane total : ℕ) → length items ≤ k → items ≡ script → total ≡ requests_before items k lane → total ≡ requests_in script lane
+all_counted items script k lane total past same is = is ∙ before_all items k lane past ∙ ap (λ s. requests_in s lane) same
+
 -- a pass that has made all so far may make the calls of one more section
 module _ (g : Geometry) (script : List (List (List Line))) (k : ℕ) (section : List (List Line)) (at : slice_get script k ≡ Some section) (p : Caller) (made : HasMade g script k p) (more : ℕ)
     (lines : more ≡ length (section_lines section p.lane)) where
