@@ -92,23 +92,22 @@ pub calls_rise : CallsRise
 calls_rise journal calls h = rise_from 0 0 journal calls h (omega arith)
 
 -- an item that is no answer adds no call
+still_more : (before : ℕ) (journal : List Item) (calls : List (Entry Op Answer)) (item : Item) → ((at : ℕ) → AreCallsFrom at (item ∷ []) []) → AreCallsFrom before journal calls
+    → AreCallsFrom before (journal ++ item ∷ []) calls
+still_more before [] [] item none h = none before
+still_more before [] (x ∷ calls) item none h = absurd h
+still_more before (Wrote x y z ∷ items) calls item none h = still_more (suc before) items calls item none h
+still_more before (Got x y z ∷ items) calls item none h = still_more (suc before) items calls item none h
+still_more before (Answered x y o ∷ items) [] item none h = absurd h
+still_more before (Answered x y o ∷ items) (c ∷ calls) item none h = (h.0, h.1, h.2, h.3, still_more (suc before) items calls item none h.4)
+
 pub wrote_more : (before : ℕ) (journal : List Item) (calls : List (Entry Op Answer)) (l n b : ℕ) → AreCallsFrom before journal calls
     → AreCallsFrom before (journal ++ Wrote l n b ∷ []) calls
-wrote_more before [] [] l n b h = tt
-wrote_more before [] (x ∷ calls) l n b h = absurd h
-wrote_more before (Wrote x y z ∷ items) calls l n b h = wrote_more (suc before) items calls l n b h
-wrote_more before (Got x y z ∷ items) calls l n b h = wrote_more (suc before) items calls l n b h
-wrote_more before (Answered x y o ∷ items) [] l n b h = absurd h
-wrote_more before (Answered x y o ∷ items) (c ∷ calls) l n b h = (h.0, h.1, h.2, h.3, wrote_more (suc before) items calls l n b h.4)
+wrote_more before journal calls l n b h = still_more before journal calls (Wrote l n b) (λ at. tt) h
 
 pub got_more : (before : ℕ) (journal : List Item) (calls : List (Entry Op Answer)) (l n b : ℕ) → AreCallsFrom before journal calls
     → AreCallsFrom before (journal ++ Got l n b ∷ []) calls
-got_more before [] [] l n b h = tt
-got_more before [] (x ∷ calls) l n b h = absurd h
-got_more before (Wrote x y z ∷ items) calls l n b h = got_more (suc before) items calls l n b h
-got_more before (Got x y z ∷ items) calls l n b h = got_more (suc before) items calls l n b h
-got_more before (Answered x y o ∷ items) [] l n b h = absurd h
-got_more before (Answered x y o ∷ items) (c ∷ calls) l n b h = (h.0, h.1, h.2, h.3, got_more (suc before) items calls l n b h.4)
+got_more before journal calls l n b h = still_more before journal calls (Got l n b) (λ at. tt) h
 
 -- an answer adds one, at its place
 pub answered_more : (before : ℕ) (journal : List Item) (calls : List (Entry Op Answer)) (x : Entry Op Answer) → AreCallsFrom before journal calls
