@@ -3,7 +3,9 @@ use Rattle.std.proofs.Common.{◌≡◌, ℕ, ◌+◌, ◌<◌, ◌≤◌, List,
 use Rattle.std.specs.Prelude.{slice_get}
 use native.Mathlib.Decide.{ℕ_discrete}
 use Rattle.std.proofs.lemmas.Option.{slice_get-get_or, slice_get_within}
-use Rattle.bow_pair.specs.Deciding.{EachPair}
+use Rattle.bow_units.specs.Causes.{Rose}
+use Rattle.bow_core.specs.Views.{View}
+use Rattle.bow_pair.specs.Deciding.{EachPair, FailsAt}
 use Rattle.bow_pair.proofs.Stages.{put_else, put_here, some_is}
 
 module _ {V : Type 0} (Kept Done : V → V → Type 0) (first : List V) where
@@ -23,7 +25,16 @@ module _ {V : Type 0} (Kept Done : V → V → Type 0) (first : List V) where
   pub next : (now : List V) (n : ℕ) (x : V) → SoFar now n → length now ≡ length first → n < length first → slice_get first n ≡ Some (get_or now n x)
   next now n x so long on = sym (so.rest n (omega arith)) ∙ slice_get-get_or now n x (omega arith)
 
-  module _ (now : List V) (n : ℕ) (v w : V) (so : SoFar now n) (on : n < length now) (was : slice_get first n ≡ Some v) (kept_here : Kept v w) where
+  module _ (now : List V) (n : ℕ) (x w : V) (so : SoFar now n) (long : length now ≡ length first) (test : n < length first) (kept_here : Kept (get_or now n x) w) where
+    abbrev v : V
+    v = get_or now n x
+
+    on : n < length now
+    on = omega (arith, long, test)
+
+    pub was : slice_get first n ≡ Some v
+    was = next now n x so long test
+
     kept_put : EachPair Kept first (set now n w)
     kept_put k a b at is = elim (ℕ_discrete k n) [
       | no other ↦ so.kept k a b at (sym (put_else now n k w other) ∙ is)
@@ -57,3 +68,12 @@ module _ {V : Type 0} (Kept Done : V → V → Type 0) (first : List V) where
 
   pub all_done : (now : List V) (n : ℕ) → SoFar now n → length first ≤ n → EachPair Done first now
   all_done now n so far k v w was is = so.done k v w (let low = slice_get_within first k v was in omega (arith, low)) was is
+
+-- it stops at the first that fails
+pub stops : {D : Type 0} (faults : D → ℕ) (Kept Done : View D → View D → Type 0) (first now : List (View D)) (n : ℕ) (x w : View D) → SoFar Kept Done first now n → length now ≡ length first → n < length first
+    → Kept (get_or now n x) w → Rose (faults (get_or now n x).disk) (faults w.disk) → FailsAt faults n first (set now n w)
+stops faults Kept Done first now n x w so long test kept rose = record {
+  on = test;
+  rose = (get_or now n x, w, was Kept Done first now n x w so long test kept, here_then Kept Done first now n x w so long test kept, rose);
+  behind = behind_then Kept Done first now n x w so long test kept;
+}

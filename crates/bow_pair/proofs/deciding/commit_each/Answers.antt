@@ -1,11 +1,8 @@
-use Rattle.std.proofs.Common.{◌≡◌, ◌<◌, Some, get_or, length, arith}
-use Rattle.std.specs.Prelude.{slice_get}
+use Rattle.std.proofs.Common.{get_or}
 use Rattle.bow_pair.specs.Deciding.{StillForward, WasCommitted}
 use Rattle.bow_pair.proofs.Decisions.{forward_itself}
-use Rattle.bow_pair.proofs.Loops.{all_done, begins, behind_then, here_then, kept_then, more, next}
-use Rattle.bow_pair.proofs.deciding.commit_each.Given.{Over}
+use Rattle.bow_pair.proofs.Loops.{all_done, begins, kept_then, more, next, stops}
 use Rattle.bow_pair.proofs.deciding.commit_each.Goals as goal
-use Rattle.bow_pair.proofs.deciding.commit_each.Goals.{After-commit-done}
 
 pub loop-device-init : goal.loop-device-init
 loop-device-init g c =
@@ -18,42 +15,23 @@ commit-done-requires g c =
     c.requires.rests c.loop-device.device (get_or c.loop-device.cores c.loop-device.device c.index-cores-device.result)
     (next (StillForward D.stated D.content D.faults) (WasCommitted D.content) c.args.cores.now c.loop-device.cores c.loop-device.device c.index-cores-device.result c.loop-device.invariant c.loop-device.auto.cores c.loop-device-test.true)
 
-module _ (g : Over) where
-  was : (c : After-commit-done g) → slice_get c.args.cores.now c.loop-device.device ≡ Some (get_or c.loop-device.cores c.loop-device.device c.index-cores-device.result)
-  was c =
-      let D = g.D.Disk in
-      next (StillForward D.stated D.content D.faults) (WasCommitted D.content) c.args.cores.now c.loop-device.cores c.loop-device.device c.index-cores-device.result c.loop-device.invariant c.loop-device.auto.cores c.loop-device-test.true
-
-  on : (c : After-commit-done g) → c.loop-device.device < length c.loop-device.cores
-  on c = let long = c.loop-device.auto.cores in let test = c.loop-device-test.true in omega (arith, long, test)
-
 pub returns-then-not-done-clause-kept : goal.returns-then-not-done-clause-kept
 returns-then-not-done-clause-kept g c =
     let D = g.D.Disk in
-    let q = (goal.at.returns-then-not-done-clause-kept g c).After-commit-done in
     let E = c.commit-done.ensures in
-    kept_then (StillForward D.stated D.content D.faults) (WasCommitted D.content) c.args.cores.now c.loop-device.cores c.loop-device.device (get_or c.loop-device.cores c.loop-device.device c.index-cores-device.result) c.commit-done.new.core c.loop-device.invariant (on g q) (was g q)
-    (record { opened = E.opened; geometry = E.geometry; later = E.faults; images = λ f k. E.images f k })
+    kept_then (StillForward D.stated D.content D.faults) (WasCommitted D.content) c.args.cores.now c.loop-device.cores c.loop-device.device c.index-cores-device.result c.commit-done.new.core c.loop-device.invariant c.loop-device.auto.cores c.loop-device-test.true (record { opened = E.opened; geometry = E.geometry; later = E.faults; images = λ f k. E.images f k })
 
 pub returns-then-not-done-clause-failed : goal.returns-then-not-done-clause-failed
 returns-then-not-done-clause-failed g c =
     let D = g.D.Disk in
-    let q = (goal.at.returns-then-not-done-clause-failed g c).After-commit-done in
     let E = c.commit-done.ensures in
-    let v = get_or c.loop-device.cores c.loop-device.device c.index-cores-device.result in
-    record {
-      on = c.loop-device-test.true;
-      rose = (v, c.commit-done.new.core, was g q, here_then (StillForward D.stated D.content D.faults) (WasCommitted D.content) c.args.cores.now c.loop-device.cores c.loop-device.device v c.commit-done.new.core c.loop-device.invariant (on g q) (was g q) (record { opened = E.opened; geometry = E.geometry; later = E.faults; images = λ f k. E.images f k }), E.failed c.if-not-done.true);
-      behind = behind_then (StillForward D.stated D.content D.faults) (WasCommitted D.content) c.args.cores.now c.loop-device.cores c.loop-device.device v c.commit-done.new.core c.loop-device.invariant (on g q) (was g q) (record { opened = E.opened; geometry = E.geometry; later = E.faults; images = λ f k. E.images f k });
-    }
+    stops D.faults (StillForward D.stated D.content D.faults) (WasCommitted D.content) c.args.cores.now c.loop-device.cores c.loop-device.device c.index-cores-device.result c.commit-done.new.core c.loop-device.invariant c.loop-device.auto.cores c.loop-device-test.true (record { opened = E.opened; geometry = E.geometry; later = E.faults; images = λ f k. E.images f k }) (E.failed c.if-not-done.true)
 
 pub loop-device-preserved : goal.loop-device-preserved
 loop-device-preserved g c =
     let D = g.D.Disk in
-    let q = (goal.at.loop-device-preserved g c).After-commit-done in
     let E = c.commit-done.ensures in
-    more (StillForward D.stated D.content D.faults) (WasCommitted D.content) c.args.cores.now c.loop-device.cores c.loop-device.device (get_or c.loop-device.cores c.loop-device.device c.index-cores-device.result) c.commit-done.new.core c.loop-device.invariant (on g q) (was g q)
-    (record { opened = E.opened; geometry = E.geometry; later = E.faults; images = λ f k. E.images f k }) (E.done c.if-not-done.false)
+    more (StillForward D.stated D.content D.faults) (WasCommitted D.content) c.args.cores.now c.loop-device.cores c.loop-device.device c.index-cores-device.result c.commit-done.new.core c.loop-device.invariant c.loop-device.auto.cores c.loop-device-test.true (record { opened = E.opened; geometry = E.geometry; later = E.faults; images = λ f k. E.images f k }) (E.done c.if-not-done.false)
 
 pub returns-clause-committed : goal.returns-clause-committed
 returns-clause-committed g c none =

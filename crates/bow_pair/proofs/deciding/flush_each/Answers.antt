@@ -1,11 +1,8 @@
-use Rattle.std.proofs.Common.{◌≡◌, ◌<◌, Some, get_or, length, inl, inr, arith}
-use Rattle.std.specs.Prelude.{slice_get}
+use Rattle.std.proofs.Common.{get_or, inl, inr}
 use Rattle.bow_pair.specs.Deciding.{StillHolds, WasFlushed}
 use Rattle.bow_pair.proofs.Decisions.{still_itself}
-use Rattle.bow_pair.proofs.Loops.{all_done, begins, behind_then, here_then, kept_then, more, next}
-use Rattle.bow_pair.proofs.deciding.flush_each.Given.{Over}
+use Rattle.bow_pair.proofs.Loops.{all_done, begins, kept_then, more, next, stops}
 use Rattle.bow_pair.proofs.deciding.flush_each.Goals as goal
-use Rattle.bow_pair.proofs.deciding.flush_each.Goals.{After-flush-done}
 
 pub loop-device-init : goal.loop-device-init
 loop-device-init g c =
@@ -18,42 +15,23 @@ flush-done-requires g c =
     c.requires.rests c.loop-device.device (get_or c.loop-device.cores c.loop-device.device c.index-cores-device.result)
     (next (StillHolds D.stated D.content D.faults) (WasFlushed D.content) c.args.cores.now c.loop-device.cores c.loop-device.device c.index-cores-device.result c.loop-device.invariant c.loop-device.auto.cores c.loop-device-test.true)
 
-module _ (g : Over) where
-  was : (c : After-flush-done g) → slice_get c.args.cores.now c.loop-device.device ≡ Some (get_or c.loop-device.cores c.loop-device.device c.index-cores-device.result)
-  was c =
-      let D = g.D.Disk in
-      next (StillHolds D.stated D.content D.faults) (WasFlushed D.content) c.args.cores.now c.loop-device.cores c.loop-device.device c.index-cores-device.result c.loop-device.invariant c.loop-device.auto.cores c.loop-device-test.true
-
-  on : (c : After-flush-done g) → c.loop-device.device < length c.loop-device.cores
-  on c = let long = c.loop-device.auto.cores in let test = c.loop-device-test.true in omega (arith, long, test)
-
 pub returns-then-not-done-clause-kept : goal.returns-then-not-done-clause-kept
 returns-then-not-done-clause-kept g c =
     let D = g.D.Disk in
-    let q = (goal.at.returns-then-not-done-clause-kept g c).After-flush-done in
     let E = c.flush-done.ensures in
-    kept_then (StillHolds D.stated D.content D.faults) (WasFlushed D.content) c.args.cores.now c.loop-device.cores c.loop-device.device (get_or c.loop-device.cores c.loop-device.device c.index-cores-device.result) c.flush-done.new.core c.loop-device.invariant (on g q) (was g q)
-    (record { rests = E.rests; geometry = E.geometry; later = E.faults; stands = λ f s l. inl (E.stands c.if-not-done.true f s) })
+    kept_then (StillHolds D.stated D.content D.faults) (WasFlushed D.content) c.args.cores.now c.loop-device.cores c.loop-device.device c.index-cores-device.result c.flush-done.new.core c.loop-device.invariant c.loop-device.auto.cores c.loop-device-test.true (record { rests = E.rests; geometry = E.geometry; later = E.faults; stands = λ f s l. inl (E.stands c.if-not-done.true f s) })
 
 pub returns-then-not-done-clause-failed : goal.returns-then-not-done-clause-failed
 returns-then-not-done-clause-failed g c =
     let D = g.D.Disk in
-    let q = (goal.at.returns-then-not-done-clause-failed g c).After-flush-done in
     let E = c.flush-done.ensures in
-    let v = get_or c.loop-device.cores c.loop-device.device c.index-cores-device.result in
-    record {
-      on = c.loop-device-test.true;
-      rose = (v, c.flush-done.new.core, was g q, here_then (StillHolds D.stated D.content D.faults) (WasFlushed D.content) c.args.cores.now c.loop-device.cores c.loop-device.device v c.flush-done.new.core c.loop-device.invariant (on g q) (was g q) (record { rests = E.rests; geometry = E.geometry; later = E.faults; stands = λ f s l. inl (E.stands c.if-not-done.true f s) }), E.failed c.if-not-done.true);
-      behind = behind_then (StillHolds D.stated D.content D.faults) (WasFlushed D.content) c.args.cores.now c.loop-device.cores c.loop-device.device v c.flush-done.new.core c.loop-device.invariant (on g q) (was g q) (record { rests = E.rests; geometry = E.geometry; later = E.faults; stands = λ f s l. inl (E.stands c.if-not-done.true f s) });
-    }
+    stops D.faults (StillHolds D.stated D.content D.faults) (WasFlushed D.content) c.args.cores.now c.loop-device.cores c.loop-device.device c.index-cores-device.result c.flush-done.new.core c.loop-device.invariant c.loop-device.auto.cores c.loop-device-test.true (record { rests = E.rests; geometry = E.geometry; later = E.faults; stands = λ f s l. inl (E.stands c.if-not-done.true f s) }) (E.failed c.if-not-done.true)
 
 pub loop-device-preserved : goal.loop-device-preserved
 loop-device-preserved g c =
     let D = g.D.Disk in
-    let q = (goal.at.loop-device-preserved g c).After-flush-done in
     let E = c.flush-done.ensures in
-    more (StillHolds D.stated D.content D.faults) (WasFlushed D.content) c.args.cores.now c.loop-device.cores c.loop-device.device (get_or c.loop-device.cores c.loop-device.device c.index-cores-device.result) c.flush-done.new.core c.loop-device.invariant (on g q) (was g q)
-    (record { rests = E.rests; geometry = E.geometry; later = E.faults; stands = λ f s l. inr (E.flushed c.if-not-done.false f s l).stands }) (E.flushed c.if-not-done.false)
+    more (StillHolds D.stated D.content D.faults) (WasFlushed D.content) c.args.cores.now c.loop-device.cores c.loop-device.device c.index-cores-device.result c.flush-done.new.core c.loop-device.invariant c.loop-device.auto.cores c.loop-device-test.true (record { rests = E.rests; geometry = E.geometry; later = E.faults; stands = λ f s l. inr (E.flushed c.if-not-done.false f s l).stands }) (E.flushed c.if-not-done.false)
 
 pub returns-clause-flushed : goal.returns-clause-flushed
 returns-clause-flushed g c none =
