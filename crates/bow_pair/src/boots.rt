@@ -111,6 +111,8 @@ pub fn pair_boot<D: Disk, K: Keeper>(
     ensures settles { (told : ℕ → Content) → AreTold D.content disks.old told → (text : Option (List ℕ))
         → K.kept keeper.old ≡ Some text
         → IfOk result (λ _. SettlesAs D.content geometries.now disks.old disks.new text) }
+    ensures tells { (text : Option (List ℕ)) → K.kept keeper.old ≡ Some text → (left : Option (List ℕ))
+        × (K.kept keeper.new ≡ Some left) }
     ensures sizes { AreStated D.stated geometries.now disks.new }
     ensures keeper_faults { K.faults keeper.old ≤ K.faults keeper.new }
     ensures disk_faults { EachDisk (λ k g old new. D.faults old ≤ D.faults new) geometries.now disks.old disks.new }

@@ -113,3 +113,25 @@ returns-clause-settles g c told are text was =
     let r = read g q text was in
     let on = goes_on (KeepsBy c.in-Ok.committed c.end.result) (K.kept c.read_decision.new.keeper) (K.kept c.end.new.keeper) text r.1 c.end.ensures.step in
     either_settles D.content D.stated D.faults c.args.geometries.now c.args.disks.now c.settle_each.new.disks (λ d k at geo size. g.met.D.Disk.shaped d k at geo size) c.requires.sizes c.requires.many c.settle_each.auto.disks told text on.0 are c.end.result (done g c told are text on.0 r.0 on.2)
+
+pub returns-in-Err-KeeperFault-clause-tells : goal.returns-in-Err-KeeperFault-clause-tells
+returns-in-Err-KeeperFault-clause-tells g c text was =
+    let K = g.K.Keeper in
+    let on = goes_on (λ old new. (new ≡ old) × ReadsDecision old c.read_decision.result) (K.kept c.args.keeper.now) (K.kept c.read_decision.new.keeper) text was c.read_decision.ensures.reads in
+    (on.0, on.1)
+
+pub returns-in-Err-BadDecision-clause-tells : goal.returns-in-Err-BadDecision-clause-tells
+returns-in-Err-BadDecision-clause-tells g c text was =
+    let K = g.K.Keeper in
+    let on = goes_on (λ old new. (new ≡ old) × ReadsDecision old c.read_decision.result) (K.kept c.args.keeper.now) (K.kept c.read_decision.new.keeper) text was c.read_decision.ensures.reads in
+    (on.0, on.1)
+
+pub returns-in-Err-clause-tells : goal.returns-in-Err-clause-tells
+returns-in-Err-clause-tells g c text was = (text, (read g (goal.at.returns-in-Err-clause-tells g c).After-settle_each text was).1)
+
+pub returns-clause-tells : goal.returns-clause-tells
+returns-clause-tells g c text was =
+    let K = g.K.Keeper in
+    let r = read g (goal.at.returns-clause-tells g c).After-settle_each text was in
+    let on = goes_on (KeepsBy c.in-Ok.committed c.end.result) (K.kept c.read_decision.new.keeper) (K.kept c.end.new.keeper) text r.1 c.end.ensures.step in
+    (on.0, on.1)
