@@ -101,8 +101,8 @@ fn lend(buffers: &mut Vec<Option<Payload>>, count: u32) -> Option<Payload>
     buffers[count as usize].take()
 }
 
-/// The buffer with what a line `write first count seed` writes: the pattern of each block, or zeros where one of them is
-/// on no device.
+/// The buffer with what a line `write first count seed` writes: the pattern of each block, or zeros where one of them
+/// is on no device.
 ///
 /// Condition: at most 16 blocks of a size that blocks may have, and a buffer of their length in bytes.
 pub fn patterned(buffer: Payload, size: u32, first: u32, count: u32, seed: u32) -> Payload
