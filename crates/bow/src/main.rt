@@ -5,26 +5,33 @@
 //! threads; `restore`, `check` and `forward` work on the checkpoint that the image keeps; `start N`, `mark`, `abort`,
 //! `needs-checkpoint` and `needs-rollback` work on the attempts; and `boot` does what a phone does as it boots. What it
 //! tells goes to standard output. It ends with the status of `bow_tool::tool`.
+//!
+//! `pair NUMBER IMAGE..` and `pair-boot IMAGE..` work on IMAGE and one to seven further images, which commit together
+//! or roll back; ATTEMPTS is then the file of the decision. These end with the status of `bow_tool::pair_tool`.
 #![tactic(auto)]
 
+ghost use Rattle.std.specs.Prelude.{◌≡◌, ◌+◌, ◌≤◌, IfOk, length};
+
 use bow_disk::FileDisk;
-use bow_tool::tool;
+use bow_tool::{pair_tool, tool};
 use bow_units::{NoMemory, OpenGate, ReadSource, WriteSink};
 use std::io;
 use std::process::ExitCode;
 use vold_meta::FileKeeper;
 
 fn main(rt: HostRuntime) -> ExitCode {
-    let Ok(
-        Given {
-            words,
-            disk,
-            keeper,
-        },
-    ) = read_given(&rt)
-    else {
-        let _ = println!(&rt; "no memory");
-        return ExitCode::from(11);
+    let Ok(words) = words(&rt) else {
+        return without_memory(&rt);
+    };
+    let further = further_images(&words);
+    if !further.is_empty() {
+        return serve_several(&rt, &words, further);
+    }
+    let Ok(disk) = disk_on(&rt, words.first(), block_size(&words)) else {
+        return without_memory(&rt);
+    };
+    let Ok(keeper) = keeper_of(&rt, &words) else {
+        return without_memory(&rt);
     };
     let mut source = ReadSource::new(rt.reader());
     let mut sink = WriteSink::new(io::writer(&rt));
@@ -42,43 +49,80 @@ fn main(rt: HostRuntime) -> ExitCode {
     ExitCode::from(ended.status)
 }
 
-// What the command line gives: its words, and the image and the attempts that they name.
-#[derive(Drop)]
-struct Given {
-    words: Vec<String>,
-    disk: FileDisk<HostRuntime>,
-    keeper: FileKeeper<HostRuntime>,
+// Does what the words ask for on IMAGE and on the further images.
+fn serve_several(rt: &HostRuntime, words: &[String], further: &[String]) -> ExitCode
+    requires some { 1 ≤ length further.now }
+    requires few { length further.now ≤ 7 }
+{
+    let Ok(disks) = disks_on(rt, words, further) else {
+        return without_memory(rt);
+    };
+    let Ok(keeper) = keeper_of(rt, words) else {
+        return without_memory(rt);
+    };
+    let mut source = ReadSource::new(rt.reader());
+    let mut sink = WriteSink::new(io::writer(rt));
+    let ended = pair_tool(rt.alloc(), words, disks, keeper, &mut source, &mut sink);
+    ExitCode::from(ended.status)
 }
 
-// What the command line gives. In place of a word that is missing a path is empty, and the block size is 512.
-fn read_given(rt: &HostRuntime) -> Result<Given, NoMemory> {
-    let alloc = rt.alloc();
-    let words = words(rt)?;
-    let image = match words.first() {
+// There was no memory before the call.
+fn without_memory(rt: &HostRuntime) -> ExitCode {
+    let _ = println!(rt; "no memory");
+    ExitCode::from(11)
+}
+
+// The images behind IMAGE that `pair` and `pair-boot` name, where these are one to seven; none for any other command.
+fn further_images(words: &[String]) -> &[String]
+    ensures { length result.now ≤ 7 }
+{
+    let further = match words {
+        [_, _, _, name, _, further @ ..] if name.as_str() == "pair" => further,
+        [_, _, _, name, further @ ..] if name.as_str() == "pair-boot" => further,
+        _ => return &[],
+    };
+    if further.len() > 7 {
+        return &[];
+    }
+    further
+}
+
+// The disks on IMAGE and on the further images.
+fn disks_on(
+    rt: &HostRuntime,
+    words: &[String],
+    further: &[String],
+) -> Result<Vec<FileDisk<HostRuntime>>, NoMemory>
+    ensures { IfOk result (λ disks. length disks.items ≡ 1 + length further.now) }
+{
+    let mut disks = Vec::new(rt.alloc());
+    disks.push(disk_on(rt, words.first(), block_size(words))?)?;
+    for path in further {
+        disks.push(disk_on(rt, Some(path), block_size(words))?)?;
+    }
+    Ok(disks)
+}
+
+// The disk on the image of this path. In place of a path that is missing it is empty.
+fn disk_on(
+    rt: &HostRuntime,
+    path: Option<&String>,
+    block_size: u32,
+) -> Result<FileDisk<HostRuntime>, NoMemory> {
+    let path = match path {
         Some(path) => path.clone()?,
-        None => String::new(alloc),
+        None => String::new(rt.alloc()),
     };
-    let attempts = match words.get(1) {
+    Ok(FileDisk::new(rt.clone()?, path, block_size))
+}
+
+// The keeper of the file ATTEMPTS.
+fn keeper_of(rt: &HostRuntime, words: &[String]) -> Result<FileKeeper<HostRuntime>, NoMemory> {
+    let path = match words.get(1) {
         Some(path) => path.clone()?,
-        None => String::new(alloc),
+        None => String::new(rt.alloc()),
     };
-    let block_size = match words.get(2) {
-        Some(word) => block_size(word.as_str()),
-        None => 512,
-    };
-    let Ok(files) = rt.clone() else {
-        return Err(NoMemory);
-    };
-    let disk = FileDisk::new(files, image, block_size);
-    let Ok(files) = rt.clone() else {
-        return Err(NoMemory);
-    };
-    let keeper = FileKeeper::new(alloc, files, attempts)?;
-    Ok(Given {
-        words,
-        disk,
-        keeper,
-    })
+    FileKeeper::new(rt.alloc(), rt.clone()?, path)
 }
 
 // The words after the program's name, and none where one of them is no text.
@@ -96,12 +140,15 @@ fn words(rt: &HostRuntime) -> Result<Vec<String>, NoMemory> {
     }
 }
 
-// The block size that a word names, and 512 for any other word: the call refuses it.
-fn block_size(word: &str) -> u32 {
-    match word {
-        "1024" => 1024,
-        "2048" => 2048,
-        "4096" => 4096,
-        _ => 512,
+// The block size that BLOCK names, and 512 for any other word: the call refuses it.
+fn block_size(words: &[String]) -> u32 {
+    match words.get(2) {
+        Some(word) => match word.as_str() {
+            "1024" => 1024,
+            "2048" => 2048,
+            "4096" => 4096,
+            _ => 512,
+        },
+        None => 512,
     }
 }

@@ -205,8 +205,9 @@ impl<D: Disk + Drop, R: Ranges + Drop> Pair<D, R> {
         }
     }
 
-    // What a device's session of a part left, once that is over.
-    fn account(&self, device: u32, part: u32) -> Option<&Part>
+    /// What a device's session of a part left: its journal, and the buffers of its reads. `None` before that was
+    /// played.
+    pub fn account(&self, device: u32, part: u32) -> Option<&Part>
         ensures { option_copied result ≡ slice_get (part_of self.now part) device }
     {
         if part == 0 {

@@ -17,6 +17,8 @@ mod faults;
 #[cfg(test)]
 mod images;
 #[cfg(test)]
+mod pairs;
+#[cfg(test)]
 mod pasts;
 #[cfg(test)]
 mod phases;

@@ -78,8 +78,8 @@ fn sizes_of(image: &[u8]) -> Result<Geometry, Fail>
     })
 }
 
-// A disk that holds the phone's image, with its calls that fail.
-fn disk_of(alloc: Global, phone: &Phone) -> Result<MemDisk, Fail> {
+/// A disk that holds the phone's image, with its calls that fail.
+pub(crate) fn disk_of(alloc: Global, phone: &Phone) -> Result<MemDisk, Fail> {
     let sizes = sizes_of(&phone.image)?;
     let mut disk = MemDisk::new(alloc, sizes, phone.image.to_vec(alloc)?, 400)?;
     if let Some((call, mode)) = phone.fails {
@@ -94,6 +94,15 @@ fn disk_of(alloc: Global, phone: &Phone) -> Result<MemDisk, Fail> {
     Ok(disk)
 }
 
+/// The words `image attempts 512` and these.
+pub(crate) fn words_with(alloc: Global, own: &[&str]) -> Result<Vec<String>, Fail> {
+    let mut words = Vec::new(alloc);
+    for word in ["image", "attempts", "512"].iter().chain(own) {
+        words.push(String::from_str(alloc, word)?)?;
+    }
+    Ok(words)
+}
+
 /// The program with the words `image attempts 512` and these over the phone, with this script at its source.
 pub(crate) fn run<H: Threads + Wait + Sync>(
     rt: &H,
@@ -102,10 +111,7 @@ pub(crate) fn run<H: Threads + Wait + Sync>(
     own: &[&str],
     script: &str,
 ) -> Result<Ran, Fail> {
-    let mut words = Vec::new(alloc);
-    for word in ["image", "attempts", "512"].iter().chain(own) {
-        words.push(String::from_str(alloc, word)?)?;
-    }
+    let words = words_with(alloc, own)?;
     let mut keeper = MemKeeper::new(alloc, phone.kept.clone()?);
     if let Some(call) = phone.keeper_fails {
         keeper.fail_at(call, false)?;

@@ -20,7 +20,7 @@ use Rattle.bow_tool.specs.Pasts.{IsFirstReader, IsOfBlocks, IsTextBeside, IsTold
 use Rattle.bow_tool.specs.Play.{ClearsAfter}
 use Rattle.bow_tool.specs.declared.outcomes.Outcome.{Outcome}
 use Rattle.bow_tool.specs.declared.outcomes.Outcome.TheVariants as outcome
-use Rattle.bow_tool.specs.declared.refusals.Refusal.TheVariants.{NoMemory as NoRoom}
+use Rattle.bow_tool.specs.declared.refusals.Refusal.TheVariants.{KeeperFault, NoMemory as NoRoom}
 
 -- ----------------------------------------------------------------------------------------------------------------
 -- A reader is always of the blocks that it was begun for.
@@ -63,17 +63,17 @@ told_beside e s r (Err none) cleared o is told = inl told
 abbrev pub PastCame : ℕ → Extent → Call → Outcome → Type 0
 PastCame number e c (outcome.Done text) = PastText number e c text.items
 PastCame number e c (outcome.Refused refusal) = PastRefused number e c refusal
-PastCame number e c (outcome.NotCleared text) = PastNotCleared number e c text.items
+PastCame number e c (outcome.Behind refusal text) = (refusal ≡ KeeperFault) × PastNotCleared number e c text.items
 
 pub past_came : (number : ℕ) (e : Extent) (c : Call) (s : Run c.Disk) (r : Option Reading) (cleared : Bool) (o : Outcome) → WasRunBeside number e c r s → ClearsAfter c s cleared → IsToldBeside e s r cleared o → PastCame number e c o
 past_came number e c s r cleared o was clears (inl none) = subst (PastCame number e c) (sym none) (inr (refl, (s, (r, was), (cleared, clears))))
 past_came number e c s r true (outcome.Done told) was clears (inr (text, is, same)) = (s, r, was, clears, subst (IsTextBeside e s r) (sym same) is)
 past_came number e c s r false (outcome.Done told) was clears (inr (text, is, same)) = absurd same
-past_came number e c s r true (outcome.NotCleared told) was clears (inr (text, is, same)) = absurd same
-past_came number e c s r false (outcome.NotCleared told) was clears (inr (text, is, same)) = (s, r, was, clears, (text, is, same))
+past_came number e c s r true (outcome.Behind refusal told) was clears (inr (text, is, same)) = absurd same
+past_came number e c s r false (outcome.Behind refusal told) was clears (inr (text, is, same)) = (same.0, (s, r, was, clears, (text, is, same.1)))
 past_came number e c s r cleared (outcome.Refused refusal) was clears (inr (text, is, none)) = inr (none, (s, (r, was), (cleared, clears)))
 
 pub past_outcome : (number first count : ℕ) (c : Call) (o : Outcome) → PastCame number (blocks_from first count) c o → IsOutcome (Past number first count) c o
 past_outcome number first count c (outcome.Done text) came = came
 past_outcome number first count c (outcome.Refused refusal) came = came
-past_outcome number first count c (outcome.NotCleared text) came = came
+past_outcome number first count c (outcome.Behind refusal text) came = came

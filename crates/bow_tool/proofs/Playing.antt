@@ -21,7 +21,7 @@ use Rattle.bow_tool.specs.Pasts.{PastNotCleared}
 use Rattle.bow_tool.specs.Play.{PlayInOrder, RunNotCleared, RunRefused, TellsScript, WasNotPlayed, refusal_for}
 
 -- a source that tells a script gives no other text
-no_other : (left rest : Option (List ℕ)) (text : List ℕ) (line : ℕ) → TellsScript left → Consumes left rest text → IsAtEnd rest ⊎ (length text ≡ 4194305) → IsCause text (scripts.BadScript line) → ⊥
+pub no_other : (left rest : Option (List ℕ)) (text : List ℕ) (line : ℕ) → TellsScript left → Consumes left rest text → IsAtEnd rest ⊎ (length text ≡ 4194305) → IsCause text (scripts.BadScript line) → ⊥
 no_other None rest text line tells bytes whole fault = tells
 no_other (Some xs) None text line tells bytes whole fault = bytes
 no_other (Some xs) (Some ys) text line tells bytes whole fault =
@@ -35,11 +35,11 @@ no_other (Some xs) (Some ys) text line tells bytes whole fault =
       | inr limit ↦ omega (arith, few, long, limit)
     ]
 
-whole_text : (t : Taken) (line : ℕ) (gave : GaveNoScript t line) → IsAtEnd t.rest ⊎ (length gave.text ≡ 4194305)
+pub whole_text : (t : Taken) (line : ℕ) (gave : GaveNoScript t line) → IsAtEnd t.rest ⊎ (length gave.text ≡ 4194305)
 whole_text t line gave = elim gave.whole [ inl ended ↦ inl ended.0 | inr limit ↦ inr limit ]
 
 -- a disk that told a plain block 0, and whose image was kept, begins with no magic
-plain_kept : (old new : Option Content) (k : Content) → old ≡ Some k → Goes (λ c d. d.now ≡ c.now) old new → BeginsMagic new → BeginsMagic (Some k)
+pub plain_kept : (old new : Option Content) (k : Content) → old ≡ Some k → Goes (λ c d. d.now ≡ c.now) old new → BeginsMagic new → BeginsMagic (Some k)
 plain_kept None new k told goes magic = absurd (none_some told)
   where
     none_some : {x : Content} → None ≡ Some x → ⊥

@@ -1,10 +1,10 @@
 -- What is told of the calls of a script's callers.
 use Rattle.std.proofs.Common.{◌≡◌, ◌⊎◌, inl, inr, ℕ, zero, suc, ◌+◌, ◌%◌, ◌<◌, ◌≤◌, ◌==◌, Bool, true, false, cond, List, [], ◌∷◌, ◌++◌, length, map, filter, take, drop, Option, Some, None, arith, refl, sym, ap, ◌∙◌, subst, append_assoc, append-nil, eq-eqb}
-use Rattle.std.specs.Prelude.{slice_get, slice_index_or, Contains}
+use Rattle.std.specs.Prelude.{slice_get}
 use Rattle.std.specs.List.{flat_map}
 use Rattle.std.specs.Option.{option_map}
 use Rattle.std.proofs.lemmas.Grind.{flat_map-append}
-use Rattle.std.proofs.lemmas.List.{flat_map_more, map-append, take_more, take-append-drop}
+use Rattle.std.proofs.lemmas.List.{flat_map_more, map-append, take_more}
 use Rattle.std.proofs.lemmas.List.Elements.{filter-append}
 use Rattle.std.proofs.lemmas.Option.{get_or_from_slice_get, slice_get-get_or, slice_get-map}
 use Rattle.std.proofs.lemmas.Bool.{cases_lt, eqb-true}
@@ -12,7 +12,6 @@ use Rattle.std.proofs.Math.Nat.{mul-mod_left}
 use Rattle.bow_units.specs.declared.requests.Op.{Op}
 use Rattle.bow_units.specs.declared.sizes.Geometry.{Geometry}
 use Rattle.bow_session.specs.Contents.{block_read, content_in}
-use Rattle.bow_history.specs.declared.items.Item.{Item}
 use Rattle.bow_history.specs.declared.items.Item.TheVariants.{Got}
 use Rattle.bow_tags.specs.declared.view.Entry.{Entry}
 use Rattle.bow_receipts.specs.declared.asks.Answer.{Answer}
@@ -23,13 +22,13 @@ use Rattle.bow_receipts.specs.Copies.{blocks_read}
 use Rattle.bow_receipts.specs.Served.{HaveBlocksRead, entry_of}
 use Rattle.bow_receipts.proofs.Lists.{at_within, clash, filter_at, one_of}
 use Rattle.bow_promise.proofs.Flushed.{get_drop, get_take}
-use Rattle.bow_tool.specs.CallLines.{AreNumbered, IsCallIn, bytes_by, bytes_in, receipt_line, receipts_text}
+use Rattle.bow_tool.specs.CallLines.{AreNumbered, IsCallIn, bytes_by, bytes_in, receipt_line}
 use Rattle.bow_tool.specs.Callers.{HasCommitted, IsCommitCall}
 
 -- ----------------------------------------------------------------------------------------------------------------
 -- One element more.
 
-front_more : {A : Type 0} (xs : List A) (i : ℕ) (x : A) → slice_get xs i ≡ Some x → take (i + 1) xs ≡ take i xs ++ x ∷ []
+pub front_more : {A : Type 0} (xs : List A) (i : ℕ) (x : A) → slice_get xs i ≡ Some x → take (i + 1) xs ≡ take i xs ++ x ∷ []
 front_more xs i x at = take_more xs i x (at_within xs i x at) ∙ ap (λ y. take i xs ++ y ∷ []) (get_or_from_slice_get xs i x x at)
 
 -- what is told of one item more
@@ -51,11 +50,11 @@ receipts_next lane before text now calls i call at so_far more =
     more ∙ ap (λ t. t ++ flat_map receipt_line last) so_far ∙ append_assoc before (flat_map receipt_line some) (flat_map receipt_line last)
     ∙ ap (λ t. before ++ t) (sym (flat_map-append receipt_line some last)) ∙ ap (λ xs. before ++ flat_map receipt_line xs) (sym all)
 
--- the receipts of one lane more
-pub lanes_next : (before text now : List ℕ) (calls : List (Entry Op Answer)) (lane : ℕ) → text ≡ before ++ receipts_text lane calls → now ≡ text ++ flat_map receipt_line (given_of lane calls) → now ≡ before ++ receipts_text (lane + 1) calls
-lanes_next before text now calls lane so_far more =
-    more ∙ ap (λ t. t ++ flat_map receipt_line (given_of lane calls)) so_far ∙ append_assoc before (receipts_text lane calls) (flat_map receipt_line (given_of lane calls))
-    ∙ ap (λ n. before ++ receipts_text n calls) (let e : suc lane ≡ lane + 1 = omega arith in e)
+-- what is told of one more, where all are told in turn
+pub turn_next : (all one : ℕ → List ℕ) → ((k : ℕ) → all (suc k) ≡ all k ++ one k) → (before text now : List ℕ) (k : ℕ) → text ≡ before ++ all k → now ≡ text ++ one k → now ≡ before ++ all (k + 1)
+turn_next all one step before text now k so_far more =
+    more ∙ ap (λ t. t ++ one k) so_far ∙ append_assoc before (all k) (one k) ∙ ap (λ t. before ++ t) (sym (step k))
+    ∙ ap (λ n. before ++ all n) (let e : suc k ≡ k + 1 = omega arith in e)
 
 -- the receipt of a call, where it is of the lane
 pub of_lane : (lane : ℕ) (call : Call) → call.lane ≡ lane → given_of lane (entry_of call ∷ []) ≡ entry_of call ∷ []

@@ -23,7 +23,6 @@ use Rattle.vold_commands.specs.declared.boots.BootFault.{BootFault}
 use Rattle.vold_commands.specs.declared.boots.BootFault.TheVariants as boots
 use Rattle.bow_words.specs.declared.commands.Command.{Command}
 use Rattle.bow_words.specs.declared.commands.Command.TheVariants.{Play, Run, Restore, Check, Forward, Start, Mark, NeedsCheckpoint, NeedsRollback, Abort, Boot, Drill, Past, Callers}
-use Rattle.bow_words.specs.Words.{AskForOne, Asks}
 use Rattle.bow_tool.specs.declared.refusals.Refusal.{Refusal}
 use Rattle.bow_tool.specs.declared.refusals.Refusal.TheVariants.{BadWords, BadScript, SourceFault, DiskFault, KeeperFault, NeedsRestore, BadChain, BadHeader, Reserved, BadAttempts, NoMemory, Stopped, BadGeometry}
 use Rattle.bow_tool.specs.Refusals.{refusal_line, status_of}
@@ -41,7 +40,7 @@ use Rattle.bow_tool.specs.Check.{CheckCause, ImageInOrder, Finds, OfImage, OnlyR
 use Rattle.bow_tool.specs.Restores.{ForwardCause, IsForwardRefusal, IsForwarded, IsRestoreRefusal, IsRestored, RestoreCause}
 use Rattle.bow_tool.specs.Attempts.{AttemptCause, AttemptsInOrder, KeeperHolds, RanStep, StartRefusal, WasAsked}
 use Rattle.bow_tool.specs.Boots.{BootCause, IsBooted, IsBootRefusal}
-use Rattle.bow_tool.specs.Commands.{AskFor, CommandCause, CommandInOrder, DoneText, ForwardInOrder, IsOutcome, IsOutcomePut, IsPut, IsRefusalPut, IsRefused, IsRefusedWith, MayStop, NotClearedText, RefusalCause, Tells, TellsCommand, TellsWords}
+use Rattle.bow_tool.specs.Commands.{AskFor, CommandCause, CommandInOrder, DoneText, ForwardInOrder, IsOutcome, IsOutcomePut, IsPut, IsRefusalPut, IsRefused, IsRefusedWith, MayStop, Meaning, NotClearedText, Tells, TellsAsked, TellsCommand, TellsOf, WordsCause}
 
 -- a refusal that want of memory made, or a limit that may be reached
 abbrev pub Ends : Type 0 → Refusal → Type 0
@@ -86,7 +85,7 @@ check_ends law Stops c (Stopped writes) order cause = absurd cause.1
 check_ends law Stops c (BadGeometry g) order cause = absurd (cause.1.1 (order.sizes g cause.1.0))
 
 -- sizes that are valid and told are no cause
-no_sizes_cause : (stated : Option Geometry) (faults now : ℕ) (refusal : Refusal) → ((g : Geometry) → stated ≡ Some g → IsValid g) → (Rose faults now → ⊥) → SizesCause stated faults now refusal → ⊥
+pub no_sizes_cause : (stated : Option Geometry) (faults now : ℕ) (refusal : Refusal) → ((g : Geometry) → stated ≡ Some g → IsValid g) → (Rose faults now → ⊥) → SizesCause stated faults now refusal → ⊥
 no_sizes_cause stated faults now BadWords sizes disk cause = cause
 no_sizes_cause stated faults now (BadScript line) sizes disk cause = cause
 no_sizes_cause stated faults now SourceFault sizes disk cause = cause
@@ -129,13 +128,13 @@ restore_ends limit c refusal order cause = elim cause.1 [
     by_answer g is restored.DiskFault did told = absurd (order.disk did.cause)
     by_answer g is restored.NoMemory did told = memory_ends (MayStop (Restore limit)) refusal told
 
-no_header : (fault : LogFault) → IsOfHeader fault → Some NoMagic ≡ Some fault → ⊥
+pub no_header : (fault : LogFault) → IsOfHeader fault → Some NoMagic ≡ Some fault → ⊥
 no_header fault of is = subst IsOfHeader (sym (same is)) of
   where
     same : Some NoMagic ≡ Some fault → NoMagic ≡ fault
     same is = cc
 
-none_some : {A : Type 0} {x : Option A} {y : A} → x ≡ None → x ≡ Some y → ⊥
+pub none_some : {A : Type 0} {x : Option A} {y : A} → x ≡ None → x ≡ Some y → ⊥
 none_some a b = cc
 
 -- giving the checkpoint up
@@ -271,8 +270,8 @@ none_five : (status : ℕ) → status ≡ 0 → status ≡ 5 → ⊥
 none_five status zero five = omega (arith, zero, five)
 
 -- a text that was put
-text_told : (Done : List ℕ → Type 0) (Cause : Refusal → Type 0) (NotCleared : List ℕ → Type 0) (InOrder Stops : Type 0) (text : List ℕ) (had has : Option (List ℕ)) (faults now status : ℕ) → Done text → IsPut 0 text had has faults now status → Tells Done Cause NotCleared InOrder Stops had has faults now status
-text_told Done Cause NotCleared InOrder Stops text had has faults now status did put = elim put [
+pub text_told : (Done : List ℕ → Type 0) (Cause : Refusal → Type 0) (Behind : Refusal → List ℕ → Type 0) (InOrder Stops : Type 0) (text : List ℕ) (had has : Option (List ℕ)) (faults now status : ℕ) → Done text → IsPut 0 text had has faults now status → Tells Done Cause Behind InOrder Stops had has faults now status
+text_told Done Cause Behind InOrder Stops text had has faults now status did put = elim put [
   | inl whole ↦ record {
     done = λ is. (text, did, whole.1);
     refused = λ not_0 not_5. absurd (not_0 whole.0);
@@ -299,9 +298,9 @@ told_ends Stops refusal told status is (inl same) (inr stopped) = inr (inr (is �
 told_ends Stops refusal told status is (inr none) ends = inr (inl (is ∙ ap status_of none))
 
 -- a refusal that was put with its text
-put_told : (Done : List ℕ → Type 0) (Cause : Refusal → Type 0) (NotCleared : List ℕ → Type 0) (InOrder Stops : Type 0) (told : Refusal) (text : List ℕ) (had has : Option (List ℕ)) (faults now status : ℕ) → IsRefusedWith Cause NotCleared told text
-    → (InOrder → status ≡ status_of told → (status ≡ 0) ⊎ ((status ≡ 11) ⊎ ((status ≡ 12) × Stops))) → IsPut (status_of told) text had has faults now status → Tells Done Cause NotCleared InOrder Stops had has faults now status
-put_told Done Cause NotCleared InOrder Stops told text had has faults now status meant ends put = elim put [
+pub put_told : (Done : List ℕ → Type 0) (Cause : Refusal → Type 0) (Behind : Refusal → List ℕ → Type 0) (InOrder Stops : Type 0) (told : Refusal) (text : List ℕ) (had has : Option (List ℕ)) (faults now status : ℕ) → IsRefusedWith Cause Behind told text
+    → (InOrder → status ≡ status_of told → (status ≡ 0) ⊎ ((status ≡ 11) ⊎ ((status ≡ 12) × Stops))) → IsPut (status_of told) text had has faults now status → Tells Done Cause Behind InOrder Stops had has faults now status
+put_told Done Cause Behind InOrder Stops told text had has faults now status meant ends put = elim put [
   | inl whole ↦ record {
     done = λ is. absurd ((status_above told).0 (sym whole.0 ∙ is));
     refused = λ not_0 not_5. (told, text, whole.0, meant, whole.1);
@@ -319,15 +318,15 @@ put_told Done Cause NotCleared InOrder Stops told text had has faults now status
 ]
 
 -- a refusal that was told
-pub refusal_told : (Done : List ℕ → Type 0) (Cause : Refusal → Type 0) (NotCleared : List ℕ → Type 0) (InOrder Stops : Type 0) (refusal : Refusal) (had has : Option (List ℕ)) (faults now status : ℕ) → Cause refusal → (InOrder → Ends Stops refusal) → IsRefusalPut refusal had has faults now status → Tells Done Cause NotCleared InOrder Stops had has faults now status
-refusal_told Done Cause NotCleared InOrder Stops refusal had has faults now status cause ends put =
-    put_told Done Cause NotCleared InOrder Stops put.0 (refusal_line put.0) had has faults now status (inl (is_refused Cause refusal put.0 cause put.1, refl)) (λ order is. told_ends Stops refusal put.0 status is put.1 (ends order)) put.2
+pub refusal_told : (Done : List ℕ → Type 0) (Cause : Refusal → Type 0) (Behind : Refusal → List ℕ → Type 0) (InOrder Stops : Type 0) (refusal : Refusal) (had has : Option (List ℕ)) (faults now status : ℕ) → Cause refusal → (InOrder → Ends Stops refusal) → IsRefusalPut refusal had has faults now status → Tells Done Cause Behind InOrder Stops had has faults now status
+refusal_told Done Cause Behind InOrder Stops refusal had has faults now status cause ends put =
+    put_told Done Cause Behind InOrder Stops put.0 (refusal_line put.0) had has faults now status (inl (is_refused Cause refusal put.0 cause put.1, refl)) (λ order is. told_ends Stops refusal put.0 status is put.1 (ends order)) put.2
 
 -- what a call tells, by the outcome that it put
 pub outcome_told : (law : FaultyIsNotSound) (command : Command) (c : Call) (o : Outcome) (had has : Option (List ℕ)) (faults now status : ℕ) → IsOutcome command c o → IsOutcomePut o had has faults now status → TellsCommand command c had has faults now status
 outcome_told law command c (outcome.Done text) had has faults now status did put = text_told _ _ _ _ _ text.items had has faults now status did put
 outcome_told law command c (outcome.Refused refusal) had has faults now status cause put = refusal_told _ _ _ _ _ refusal had has faults now status cause (λ order. command_ends law command c refusal order cause) put
-outcome_told law command c (outcome.NotCleared text) had has faults now status failed put = put_told _ _ _ _ _ KeeperFault text.items had has faults now status (inr (refl, failed)) (λ order is. absurd (no_fault command c text.items order failed)) put
+outcome_told law command c (outcome.Behind refusal text) had has faults now status failed put = put_told _ _ _ _ _ refusal text.items had has faults now status (inr failed) (λ order is. absurd (no_fault command c text.items order failed.1)) put
 
 -- what a check came to
 pub check_came : (c : Call) (r : Result (Vec ℕ Global) Refusal) (o : Outcome) → OnlyReads c → IfOk r (λ text. OfImage (c.disks.stated c.disk_after) (c.disks.content c.disk) (λ g image. TellsChain g image text.items))
@@ -339,24 +338,24 @@ check_came c (Err refusal) o reads told cause is = subst (IsOutcome Check c) (sy
 abbrev pub RunCame : (c : Call) → (Session c.Disk → Type 0) → Outcome → Type 0
 RunCame c Was (outcome.Done text) = RunText c Was text.items
 RunCame c Was (outcome.Refused refusal) = RunRefused c Was refusal
-RunCame c Was (outcome.NotCleared text) = RunNotCleared c Was text.items
+RunCame c Was (outcome.Behind refusal text) = (refusal ≡ KeeperFault) × RunNotCleared c Was text.items
 
 pub run_came : (c : Call) (Was : Session c.Disk → Type 0) (s : Session c.Disk) (cleared : Bool) (o : Outcome) → Was s → ClearsAfter c s cleared → IsTranscriptTold (transcript_of s) cleared o → RunCame c Was o
 run_came c Was s true (outcome.Done told) was clears is = (s, was, clears, is)
 run_came c Was s false (outcome.Done told) was clears is = absurd is
-run_came c Was s true (outcome.NotCleared told) was clears is = absurd is
-run_came c Was s false (outcome.NotCleared told) was clears is = (s, was, clears, is)
+run_came c Was s true (outcome.Behind refusal told) was clears is = absurd is
+run_came c Was s false (outcome.Behind refusal told) was clears is = (is.0, (s, was, clears, is.1))
 run_came c Was s cleared (outcome.Refused refusal) was clears is = inr (is, (s, was, (cleared, clears)))
 
 pub play_outcome : (number : ℕ) (c : Call) (o : Outcome) → RunCame c (WasPlayed number c) o → IsOutcome (Play number) c o
 play_outcome number c (outcome.Done text) came = came
 play_outcome number c (outcome.Refused refusal) came = came
-play_outcome number c (outcome.NotCleared text) came = came
+play_outcome number c (outcome.Behind refusal text) came = came
 
 pub run_outcome : (servers : ℕ) (c : Call) (o : Outcome) → RunCame c (WasRun c) o → IsOutcome (Run servers) c o
 run_outcome servers c (outcome.Done text) came = came
 run_outcome servers c (outcome.Refused refusal) came = came
-run_outcome servers c (outcome.NotCleared text) came = came
+run_outcome servers c (outcome.Behind refusal text) came = came
 
 -- whether it has committed, said otherwise
 pub clears_for : {K : Type 0} (v : KeeperView K) (P Q : Type 0) (old new : K) (cleared : Bool) → (P → Q) → (Q → P) → Clears v P old new cleared → Clears v Q old new cleared
@@ -368,15 +367,15 @@ clears_for v P Q old new false to from failed = (to failed.0, failed.1)
 pub called_came : (c : Call) (r : CallersRun c.Disk) (whole cleared : Bool) (o : Outcome) → WasCalled c r → (whole ≡ true → IsWhole r) → ClearsAfterCalls c r cleared → IsCalledTold whole (called_text r) cleared o → CallersCame c o
 called_came c r true true (outcome.Done told) was all clears is = (r, was, all refl, clears, is)
 called_came c r true false (outcome.Done told) was all clears is = absurd is
-called_came c r true true (outcome.NotCleared told) was all clears is = absurd is
-called_came c r true false (outcome.NotCleared told) was all clears is = (r, was, all refl, clears, is)
+called_came c r true true (outcome.Behind refusal told) was all clears is = absurd is
+called_came c r true false (outcome.Behind refusal told) was all clears is = (is.0, (r, was, all refl, clears, is.1))
 called_came c r true cleared (outcome.Refused refusal) was all clears is = inr (is, (r, was, (cleared, clears)))
 called_came c r false cleared o was all clears is = subst (CallersCame c) (sym is) (inr (refl, (r, was, (cleared, clears))))
 
 pub callers_outcome : (c : Call) (o : Outcome) → CallersCame c o → IsOutcome Callers c o
 callers_outcome c (outcome.Done text) came = came
 callers_outcome c (outcome.Refused refusal) came = came
-callers_outcome c (outcome.NotCleared text) came = came
+callers_outcome c (outcome.Behind refusal text) came = came
 
 -- the transcript was told, or found no memory
 pub told_of : {E : Type 0} (spelled : List ℕ) (text : Result (Vec ℕ Global) E) (cleared : Bool) (o : Outcome) → IfOk text (λ t. t.items ≡ spelled) → MatchResult text (λ t. IsTranscriptTold t.items cleared o) (λ _. o ≡ outcome.Refused NoMemory) → IsTranscriptTold spelled cleared o
@@ -391,29 +390,56 @@ called_told spelled (Ok t) whole cleared o all is told = subst (λ w. IsCalledTo
 called_told spelled (Err e) true cleared o all is told = told_of spelled (Err e) cleared o is told
 called_told spelled (Err e) false cleared o all is told = told
 
-refused_of : (words : List (String Global)) (command : Command) (c : Call) (refusal : Refusal) (text : List ℕ) → Asks words command → IsRefusedWith (CommandCause command c) (NotClearedText command c) refusal text → IsRefusedWith (RefusalCause words c) (λ t. AskFor words (λ x. NotClearedText x c t)) refusal text
-refused_of words command c refusal text asks (inl told) = inl (caused told.0, told.1)
-  where
-    caused : IsRefused (CommandCause command c) refusal → IsRefused (RefusalCause words c) refusal
-    caused (inl cause) = inl (inr (command, asks, cause))
-    caused (inr none) = inr (none.0, (none.1.0, inr (command, asks, none.1.1)))
-refused_of words command c refusal text asks (inr failed) = inr (failed.0, (command, asks, failed.1))
+module _ {C : Type 0} (Asked : C → Type 0) (Untouched : Type 0) (m : Meaning C) where
+  -- why a call refuses whose words ask for such a command
+  abbrev CauseOf : Refusal → Type 0
+  CauseOf refusal = (WordsCause Asked refusal × Untouched) ⊎ AskFor Asked (λ x. m.cause x refusal)
 
-stops_of : (words : List (String Global)) (command : Command) (status : ℕ) → Asks words command → (status ≡ 0) ⊎ ((status ≡ 11) ⊎ ((status ≡ 12) × MayStop command)) → (status ≡ 0) ⊎ ((status ≡ 11) ⊎ ((status ≡ 12) × AskFor words MayStop))
-stops_of words command status asks (inl zero) = inl zero
-stops_of words command status asks (inr (inl memory)) = inr (inl memory)
-stops_of words command status asks (inr (inr stopped)) = inr (inr (stopped.0, (command, asks, stopped.1)))
+  abbrev BehindOf : Refusal → List ℕ → Type 0
+  BehindOf refusal text = AskFor Asked (λ x. m.behind x refusal text)
 
--- the words asked for the command
-pub words_told : AskForOne → (words : List (String Global)) (command : Command) (c : Call) (had has : Option (List ℕ)) (faults now status : ℕ) → Asks words command → TellsCommand command c had has faults now status → TellsWords words c had has faults now status
-words_told one words command c had has faults now status asks tells = record {
-  done = λ is. (let did = tells.done is in (did.0, (command, asks, did.1), did.2));
-  refused = λ not_0 not_5. (let told = tells.refused not_0 not_5 in (told.0, told.1, told.2, refused_of words command c told.0 told.1 asks told.3, told.4));
-  stuck = tells.stuck;
-  front = λ is. (let put = tells.front is in (put.0, put.1, put.2, front_of put.0 put.3));
-  complete = λ order sound. stops_of words command status asks (tells.complete (subst (λ x. CommandInOrder x c) (one words order.0 command order.1 asks) order.2) sound);
-}
-  where
-    front_of : (text : List ℕ) → DoneText command c text ⊎ ((refusal : Refusal) × IsRefusedWith (CommandCause command c) (NotClearedText command c) refusal text) → AskFor words (λ x. DoneText x c text) ⊎ ((refusal : Refusal) × IsRefusedWith (RefusalCause words c) (λ t. AskFor words (λ x. NotClearedText x c t)) refusal text)
-    front_of text (inl did) = inl (command, asks, did)
-    front_of text (inr told) = inr (told.0, refused_of words command c told.0 text asks told.1)
+  refused_of : (command : C) (refusal : Refusal) (text : List ℕ) → Asked command → IsRefusedWith (m.cause command) (m.behind command) refusal text → IsRefusedWith CauseOf BehindOf refusal text
+  refused_of command refusal text asks (inl told) = inl (caused told.0, told.1)
+    where
+      caused : IsRefused (m.cause command) refusal → IsRefused CauseOf refusal
+      caused (inl cause) = inl (inr (command, asks, cause))
+      caused (inr none) = inr (none.0, (none.1.0, inr (command, asks, none.1.1)))
+  refused_of command refusal text asks (inr behind) = inr (command, asks, behind)
+
+  stops_of : (command : C) (status : ℕ) → Asked command → (status ≡ 0) ⊎ ((status ≡ 11) ⊎ ((status ≡ 12) × m.may_stop command)) → (status ≡ 0) ⊎ ((status ≡ 11) ⊎ ((status ≡ 12) × AskFor Asked m.may_stop))
+  stops_of command status asks (inl zero) = inl zero
+  stops_of command status asks (inr (inl memory)) = inr (inl memory)
+  stops_of command status asks (inr (inr stopped)) = inr (inr (stopped.0, (command, asks, stopped.1)))
+
+  -- the words asked for the command, and for no other
+  pub words_told : ((a b : C) → Asked a → Asked b → a ≡ b) → (command : C) (had has : Option (List ℕ)) (faults now status : ℕ) → Asked command → TellsOf m command had has faults now status → TellsAsked Asked Untouched m had has faults now status
+  words_told one command had has faults now status asks tells = record {
+    done = λ is. (let did = tells.done is in (did.0, (command, asks, did.1), did.2));
+    refused = λ not_0 not_5. (let told = tells.refused not_0 not_5 in (told.0, told.1, told.2, refused_of command told.0 told.1 asks told.3, told.4));
+    stuck = tells.stuck;
+    front = λ is. (let put = tells.front is in (put.0, put.1, put.2, front_of put.0 put.3));
+    complete = λ order sound. stops_of command status asks (tells.complete (subst m.in_order (one order.0 command order.1 asks) order.2) sound);
+  }
+    where
+      front_of : (text : List ℕ) → m.done command text ⊎ ((refusal : Refusal) × IsRefusedWith (m.cause command) (m.behind command) refusal text) → AskFor Asked (λ x. m.done x text) ⊎ ((refusal : Refusal) × IsRefusedWith CauseOf BehindOf refusal text)
+      front_of text (inl did) = inl (command, asks, did)
+      front_of text (inr told) = inr (told.0, refused_of command told.0 text asks told.1)
+
+  -- the words come to no command
+  no_words_end : (refusal : Refusal) → AskFor Asked m.in_order → WordsCause Asked refusal → status_of refusal ≡ 11
+  no_words_end BadWords order cause = absurd (cause order.0 order.1)
+  no_words_end (BadScript line) order cause = absurd cause
+  no_words_end SourceFault order cause = absurd cause
+  no_words_end DiskFault order cause = absurd cause
+  no_words_end KeeperFault order cause = absurd cause
+  no_words_end NeedsRestore order cause = absurd cause
+  no_words_end (BadChain fault) order cause = absurd cause
+  no_words_end (BadHeader fault) order cause = absurd cause
+  no_words_end Reserved order cause = absurd cause
+  no_words_end BadAttempts order cause = absurd cause
+  no_words_end NoMemory order cause = refl
+  no_words_end (Stopped writes) order cause = absurd cause
+  no_words_end (BadGeometry g) order cause = absurd cause
+
+  pub no_words_told : (refusal : Refusal) (had has : Option (List ℕ)) (faults now status : ℕ) → WordsCause Asked refusal → Untouched → IsRefusalPut refusal had has faults now status → TellsAsked Asked Untouched m had has faults now status
+  no_words_told refusal had has faults now status cause untouched put = refusal_told _ CauseOf BehindOf _ _ refusal had has faults now status (inl (cause, untouched)) (λ order. inl (no_words_end refusal order cause)) put

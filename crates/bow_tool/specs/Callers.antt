@@ -184,4 +184,4 @@ CallersRefused c refusal = ((fault : PlayFault) × (refusal ≡ refusal_for faul
 abbrev pub CallersCame : Call → Outcome → Type 0
 CallersCame c (outcome.Done text) = CalledText c text.items
 CallersCame c (outcome.Refused refusal) = CallersRefused c refusal
-CallersCame c (outcome.NotCleared text) = CalledNotCleared c text.items
+CallersCame c (outcome.Behind refusal text) = (refusal ≡ KeeperFault) × CalledNotCleared c text.items

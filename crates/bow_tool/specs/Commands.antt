@@ -88,11 +88,15 @@ NotClearedText (Past number first count) c text = PastNotCleared number (blocks_
 NotClearedText Callers c text = CalledNotCleared c text
 NotClearedText command c text = ⊥
 
+-- so it may end: this refusal is told behind what was done
+abbrev pub BehindText : Command → Call → Refusal → List ℕ → Type 0
+BehindText command c refusal text = (refusal ≡ KeeperFault) × NotClearedText command c text
+
 -- the command came to this
 abbrev pub IsOutcome : Command → Call → Outcome → Type 0
 IsOutcome command c (outcome.Done text) = DoneText command c text.items
 IsOutcome command c (outcome.Refused refusal) = CommandCause command c refusal
-IsOutcome command c (outcome.NotCleared text) = NotClearedText command c text.items
+IsOutcome command c (outcome.Behind refusal text) = BehindText command c refusal text.items
 
 -- block 0 has no magic, or its header is good and the block that it names begins with none
 abbrev pub CanForward : Geometry → Contents → Type 0
@@ -130,56 +134,82 @@ abbrev pub MayStop : Command → Type 0
 MayStop (Restore (Some limit)) = Unit {0}
 MayStop command = ⊥
 
--- the words ask for a command of which this holds
-abbrev pub AskFor : List (String Global) → (Command → Type 0) → Type 0
-AskFor words P = (command : Command) × Asks words command × P command
+-- a command is asked for of which this holds
+abbrev pub AskFor : {C : Type 0} → (C → Type 0) → (C → Type 0) → Type 0
+AskFor {C} Asked P = (command : C) × Asked command × P command
 
 -- why the words come to no command: they ask for none, or there was no memory to read them
-abbrev pub WordsCause : List (String Global) → Refusal → Type 0
-WordsCause words BadWords = (command : Command) → Asks words command → ⊥
-WordsCause words NoMemory = Unit {0}
-WordsCause words refusal = ⊥
-
--- why a call refuses: its words come to no command, and nothing outside was touched; or what they ask for is refused
-abbrev pub RefusalCause : List (String Global) → Call → Refusal → Type 0
-RefusalCause words c refusal = (WordsCause words refusal × AllLeft c)
-    ⊎ AskFor words (λ command. CommandCause command c refusal)
+abbrev pub WordsCause : {C : Type 0} → (C → Type 0) → Refusal → Type 0
+WordsCause {C} Asked BadWords = (command : C) → Asked command → ⊥
+WordsCause Asked NoMemory = Unit {0}
+WordsCause Asked refusal = ⊥
 
 -- a refusal has its cause; or there is no memory for the line of one that has
 abbrev pub IsRefused : (Refusal → Type 0) → Refusal → Type 0
 IsRefused Cause refusal = Cause refusal ⊎ ((refusal ≡ NoMemory) × ((meant : Refusal) × Cause meant))
 
--- a refusal that was told with this text: its line; or a play's transcript and the line of the keeper's fault
-abbrev pub IsRefusedWith : (Refusal → Type 0) → (List ℕ → Type 0) → Refusal → List ℕ → Type 0
-IsRefusedWith Cause NotCleared refusal text = (IsRefused Cause refusal × (text ≡ refusal_line refusal))
-    ⊎ ((refusal ≡ KeeperFault) × NotCleared text)
+-- a refusal that was told with this text: its line alone, or what was done with the line behind it
+abbrev pub IsRefusedWith : (Refusal → Type 0) → (Refusal → List ℕ → Type 0) → Refusal → List ℕ → Type 0
+IsRefusedWith Cause Behind refusal text = (IsRefused Cause refusal × (text ≡ refusal_line refusal))
+    ⊎ Behind refusal text
 
 -- What a call tells, where its sink had and has these bytes, and failed so often, and its status: at 0 the text of what
 -- was done; at 5 a front of a text, as the sink failed; else a refusal, with its text and its cause. Where nothing
 -- outside stands in the way, only want of memory keeps it from being done, or the limit that was asked for.
-pub record Tells (Done : List ℕ → Type 0) (Cause : Refusal → Type 0) (NotCleared : List ℕ → Type 0)
+pub record Tells (Done : List ℕ → Type 0) (Cause : Refusal → Type 0) (Behind : Refusal → List ℕ → Type 0)
     (InOrder MayStop : Type 0) (had has : Option (List ℕ)) (faults now status : ℕ) : Type 0 where
   pub done : status ≡ 0 → (text : List ℕ) × Done text × Appends had has text
   pub refused : (status ≡ 0 → ⊥) → (status ≡ 5 → ⊥) → (refusal : Refusal) × (text : List ℕ)
-      × (status ≡ status_of refusal) × IsRefusedWith Cause NotCleared refusal text × Appends had has text
+      × (status ≡ status_of refusal) × IsRefusedWith Cause Behind refusal text × Appends had has text
   pub stuck : status ≡ 5 → Rose faults now
   pub front : status ≡ 5 → (text : List ℕ) × (n : ℕ) × Appends had has (take n text)
-      × (Done text ⊎ ((refusal : Refusal) × IsRefusedWith Cause NotCleared refusal text))
+      × (Done text ⊎ ((refusal : Refusal) × IsRefusedWith Cause Behind refusal text))
   pub complete : InOrder → (Rose faults now → ⊥)
       → (status ≡ 0) ⊎ ((status ≡ 11) ⊎ ((status ≡ 12) × MayStop))
 
+-- What commands come to in a call: the text of one that was done; why one is refused; what is told of one that was
+-- done but for its end; when nothing outside stands in its way; and whether it may stop at a limit.
+pub record Meaning (C : Type 0) : Type 1 where
+  pub done : C → List ℕ → Type 0
+  pub cause : C → Refusal → Type 0
+  pub behind : C → Refusal → List ℕ → Type 0
+  pub in_order : C → Type 0
+  pub may_stop : C → Type 0
+
+-- what a call tells that was asked for a command of this meaning
+abbrev pub TellsOf : {C : Type 0} → Meaning C → C → Option (List ℕ) → Option (List ℕ) → ℕ → ℕ → ℕ → Type 0
+TellsOf m command had has faults now status =
+    Tells (m.done command) (m.cause command) (m.behind command) (m.in_order command) (m.may_stop command) had has faults
+    now status
+
+-- What a call tells whose words ask for these commands: it does what is asked for; or it refuses, as the words come to
+-- no command and nothing outside was touched, or as what they ask for is refused.
+abbrev pub TellsAsked : {C : Type 0} → (C → Type 0) → Type 0 → Meaning C → Option (List ℕ) → Option (List ℕ) → ℕ → ℕ
+    → ℕ → Type 0
+TellsAsked Asked Untouched m had has faults now status =
+    Tells (λ text. AskFor Asked (λ command. m.done command text))
+    (λ refusal. (WordsCause Asked refusal × Untouched) ⊎ AskFor Asked (λ command. m.cause command refusal))
+    (λ refusal text. AskFor Asked (λ command. m.behind command refusal text)) (AskFor Asked m.in_order)
+    (AskFor Asked m.may_stop) had has faults now status
+
+-- what the commands come to in this call
+abbrev pub meaning_in : Call → Meaning Command
+meaning_in c = record {
+  done = λ command text. DoneText command c text;
+  cause = λ command refusal. CommandCause command c refusal;
+  behind = λ command refusal text. BehindText command c refusal text;
+  in_order = λ command. CommandInOrder command c;
+  may_stop = MayStop;
+}
+
 -- what a call tells that was asked for a command
 abbrev pub TellsCommand : Command → Call → Option (List ℕ) → Option (List ℕ) → ℕ → ℕ → ℕ → Type 0
-TellsCommand command c had has faults now status =
-    Tells (DoneText command c) (CommandCause command c) (NotClearedText command c) (CommandInOrder command c)
-    (MayStop command) had has faults now status
+TellsCommand command c had has faults now status = TellsOf (meaning_in c) command had has faults now status
 
 -- what a call tells that was given these words
 abbrev pub TellsWords : List (String Global) → Call → Option (List ℕ) → Option (List ℕ) → ℕ → ℕ → ℕ → Type 0
 TellsWords words c had has faults now status =
-    Tells (λ text. AskFor words (λ command. DoneText command c text)) (RefusalCause words c)
-    (λ text. AskFor words (λ command. NotClearedText command c text))
-    (AskFor words (λ command. CommandInOrder command c)) (AskFor words MayStop) had has faults now status
+    TellsAsked (Asks words) (AllLeft c) (meaning_in c) had has faults now status
 
 -- a line was put whole, with the status that was wanted; or a front of it, as the sink failed
 abbrev pub IsPut : ℕ → List ℕ → Option (List ℕ) → Option (List ℕ) → ℕ → ℕ → ℕ → Type 0
@@ -191,9 +221,9 @@ abbrev pub IsRefusalPut : Refusal → Option (List ℕ) → Option (List ℕ) �
 IsRefusalPut refusal had has faults now status = (told : Refusal) × ((told ≡ refusal) ⊎ (told ≡ NoMemory))
     × IsPut (status_of told) (refusal_line told) had has faults now status
 
--- an outcome was put: a text with status 0, a refusal, or a text with the status of the keeper's fault
+-- an outcome was put: a text with status 0, a refusal, or a text with the status of the refusal behind it
 abbrev pub IsOutcomePut : Outcome → Option (List ℕ) → Option (List ℕ) → ℕ → ℕ → ℕ → Type 0
 IsOutcomePut (outcome.Done text) had has faults now status = IsPut 0 text.items had has faults now status
 IsOutcomePut (outcome.Refused refusal) had has faults now status = IsRefusalPut refusal had has faults now status
-IsOutcomePut (outcome.NotCleared text) had has faults now status =
-    IsPut (status_of KeeperFault) text.items had has faults now status
+IsOutcomePut (outcome.Behind refusal text) had has faults now status =
+    IsPut (status_of refusal) text.items had has faults now status

@@ -7,6 +7,12 @@ pub mod Commands
 pub mod Drills
 pub mod Outcomes
 pub mod Outside
+pub mod PairBoots
+pub mod PairCalls
+pub mod PairCommands
+pub mod PairLines
+pub mod PairPlays
+pub mod PairScripts
 pub mod Pasts
 pub mod Play
 pub mod Refusals

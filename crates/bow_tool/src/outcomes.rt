@@ -11,8 +11,8 @@ pub(crate) enum Outcome {
     Done(Vec<u8>),
     /// It was refused.
     Refused(Refusal),
-    /// A play was made, but the keeper failed to remove the attempts: the transcript, and the line of that.
-    NotCleared(Vec<u8>),
+    /// It was done but for its end, as this refusal says: the text of what was done, and the line of that behind it.
+    Behind(Refusal, Vec<u8>),
 }
 
 // The outcome of a command that is done or refused.

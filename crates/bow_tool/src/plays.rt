@@ -170,7 +170,7 @@ pub(crate) fn told(text: Result<Vec<u8>, NoMemory>, cleared: bool) -> Outcome
         return Outcome::Done(text);
     }
     match text.extend_from_slice(b"keeper fault\n") {
-        Ok(()) => Outcome::NotCleared(text),
+        Ok(()) => Outcome::Behind(Refusal::KeeperFault, text),
         Err(_) => Outcome::Refused(Refusal::NoMemory),
     }
 }

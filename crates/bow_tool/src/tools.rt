@@ -216,7 +216,7 @@ fn obey_with<H: Threads + Wait + Sync, D: Disk + Send, K: Keeper, S: Source, G: 
 }
 
 // Why no command was read, as a refusal.
-fn refusal_of(fault: WordsFault) -> Refusal
+pub(crate) fn refusal_of(fault: WordsFault) -> Refusal
     ensures { result ≡ refusal_of_words fault }
 {
     match fault {
@@ -226,19 +226,19 @@ fn refusal_of(fault: WordsFault) -> Refusal
 }
 
 // Puts a text or the line of a refusal, and gives the status.
-fn put_outcome<W: Sink>(alloc: Global, sink: &mut W, outcome: Outcome) -> u8
+pub(crate) fn put_outcome<W: Sink>(alloc: Global, sink: &mut W, outcome: Outcome) -> u8
     ensures { IsOutcomePut outcome (W.contents sink.old) (W.contents sink.new) (W.faults sink.old) (W.faults sink.new)
         result }
 {
     match outcome {
         Outcome::Done(text) => put_line(sink, &text, 0),
         Outcome::Refused(refusal) => put_refusal(alloc, sink, refusal),
-        Outcome::NotCleared(text) => put_line(sink, &text, 7),
+        Outcome::Behind(refusal, text) => put_line(sink, &text, refusal.status()),
     }
 }
 
 // Puts the line of a refusal, and gives the status. Where the line finds no memory it is that of `NoMemory`.
-fn put_refusal<W: Sink>(alloc: Global, sink: &mut W, refusal: Refusal) -> u8
+pub(crate) fn put_refusal<W: Sink>(alloc: Global, sink: &mut W, refusal: Refusal) -> u8
     ensures { IsRefusalPut refusal (W.contents sink.old) (W.contents sink.new) (W.faults sink.old) (W.faults sink.new)
         result }
 {
