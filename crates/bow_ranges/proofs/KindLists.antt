@@ -172,13 +172,7 @@ count-with_kind kinds e kind sort inside =
     omega (arith, whole, rest, new, front, filled)
 
 is_it : (kind : Kind) → is_changed kind ≡ true → kind ≡ Changed
-is_it Changed e = refl
-is_it Sector0 e = absurd (false≢true e)
-is_it Current e = absurd (false≢true e)
-is_it Unchanged e = absurd (false≢true e)
-is_it Free e = absurd (false≢true e)
-is_it Backup e = absurd (false≢true e)
-is_it Saved e = absurd (false≢true e)
+is_it kind e = grind (arith, e)
 
 sort_kept : (sort : Kind → Bool) (t : Bool) (kind : Kind) → (t ≡ true → kind ≡ Changed) → sort Free ≡ sort Changed → sort (cond t Free kind) ≡ sort kind
 sort_kept sort true kind changed same = same ∙ ap sort (sym (changed refl))

@@ -1,33 +1,20 @@
 -- Free runs among runs, and what is picked of them.
 use Rattle.std.proofs.Common.{◌≡◌, ℕ, zero, suc, ◌+◌, ◌-◌, ◌<◌, ◌≤◌, ◌==◌, nat_lt, nat_le, Bool, true, false, cond, List, [], ◌∷◌, ◌++◌, length, drop, get_or, replicate, Option, Some, None, refl, sym, ap, ◌∙◌, subst, arith}
-use Rattle.std.proofs.lemmas.Bool.{false≢true}
 use Rattle.std.specs.List.{find}
 use Rattle.std.proofs.Math.Seq.{drop-cons}
 use Rattle.bow_units.specs.declared.sizes.Extent.{Extent}
 use Rattle.bow_units.specs.declared.statuses.Kind.{Kind}
-use Rattle.bow_units.specs.declared.statuses.Kind.TheVariants.{Sector0, Current, Unchanged, Free, Changed, Backup, Saved}
+use Rattle.bow_units.specs.declared.statuses.Kind.TheVariants.{Free}
 use Rattle.bow_ranges.specs.declared.runs.Run.{Run}
 use Rattle.bow_ranges.specs.Kinds.{is_free}
 use Rattle.bow_ranges.specs.Picks.{joined, free_runs, longer, longest, cut_to}
 use Rattle.bow_ranges.specs.Runs.{spread, free_parts, longer_of, IsNormal}
 
 pub free_is : (kind : Kind) → is_free kind ≡ true → kind ≡ Free
-free_is Free e = refl
-free_is Sector0 e = absurd (false≢true e)
-free_is Current e = absurd (false≢true e)
-free_is Unchanged e = absurd (false≢true e)
-free_is Changed e = absurd (false≢true e)
-free_is Backup e = absurd (false≢true e)
-free_is Saved e = absurd (false≢true e)
+free_is kind e = grind (arith, e)
 
 pub not_free : (kind : Kind) → (kind ≡ Free → ⊥) → is_free kind ≡ false
-not_free Free other = absurd (other refl)
-not_free Sector0 other = refl
-not_free Current other = refl
-not_free Unchanged other = refl
-not_free Changed other = refl
-not_free Backup other = refl
-not_free Saved other = refl
+not_free kind other = grind (arith, other)
 
 skipped : (n at : ℕ) (kind : Kind) (kinds : List Kind) → is_free kind ≡ false → free_runs at (replicate n kind ++ kinds) ≡ free_runs (at + n) kinds
 skipped zero at kind kinds other = let num : at ≡ at + 0 = omega arith in ap (λ a. free_runs a kinds) num
