@@ -13,10 +13,10 @@ use Rattle.bow_guard.specs.Standing.{StandsFor, Ahead}
 use Rattle.bow_guard.proofs.Joined.{writes_are_given, flushes_are_done, crashes_are_cuts}
 use Rattle.bow_queue.specs.declared.tickets.Ticket.{Ticket}
 use Rattle.bow_machine.specs.Requests.{Request}
-use Rattle.bow_machine.specs.Memory.{Memory, Hand}
+use Rattle.bow_machine.specs.Memory.{Memory}
 use Rattle.bow_machine.specs.Calls.{Call, ReadCall, WriteCall, FlushCall, Reply, Failed, Succeeded, Gave, DoesIt}
 use Rattle.bow_machine.specs.Tasks.{Task, Waits, Answers, WritesBlock, ReadsBlock, FlushesFor, DiscardsFor, Acts}
-use Rattle.bow_machine.specs.Steps.{Step, Told, Idle, Moved, Wrote, Got, Answered, call_of, step_of, act_step}
+use Rattle.bow_machine.specs.Steps.{Step, Told, Idle, Moved, Wrote, Got, Answered, call_of, step_of}
 use Rattle.bow_machine.specs.Laws.{after_all, AllowsAll}
 use Rattle.bow_machine.specs.Ready.{is_ready, is_idle}
 use Rattle.bow_machine.specs.Standing.{IsStanding}
@@ -42,7 +42,7 @@ use Rattle.bow_core.proofs.Listed.{sound_listed, listed_ahead}
 use Rattle.bow_machine.proofs.GoesForward.{sound_are_led}
 use Rattle.bow_chain.proofs.Counting.{some_inj}
 use Rattle.bow_core.proofs.Replies.{can_have}
-use Rattle.bow_core.proofs.Telling.{acts_tell}
+use Rattle.bow_core.proofs.Telling.{may_call, calls_tell}
 use Rattle.std.specs.Prelude.{◌↔◌}
 use Rattle.bow_units.specs.declared.requests.Phase.TheVariants.{Arming}
 use Rattle.bow_units.specs.declared.statuses.Kind.{Kind}
@@ -99,23 +99,17 @@ tells (Wrote t i) = true
 tells (Got t i) = true
 tells (Answered t op outcome) = true
 
-act_tells : (g : Geometry) (m : Memory) (hand : Hand) (reply : Reply) → tells (act_step g unknown m hand reply).told ≡ true
-act_tells = acts_tell (λ told. tells told ≡ true) refl (λ r n. refl) (λ r. refl)
+call_tells : (g : Geometry) (m : Memory) (task : Task) (reply : Reply) → may_call task ≡ true → tells (done_by g m task reply).told ≡ true
+call_tells = calls_tell (λ told. tells told ≡ true) refl (λ r n. refl) (λ r. refl) (λ t i. refl) (λ t i. refl)
 
 task_tells : (g : Geometry) (m : Memory) (task : Task) (reply : Reply) → is_idle task ≡ false → tells (done_by g m task reply).told ≡ true
 task_tells g m Waits reply busy = absurd (false≢true (sym busy))
 task_tells g m (Answers r o) reply busy = refl
-task_tells g m (WritesBlock r b) Failed busy = refl
-task_tells g m (WritesBlock r b) Succeeded busy = refl
-task_tells g m (WritesBlock r b) (Gave v) busy = refl
-task_tells g m (ReadsBlock r b) Failed busy = refl
-task_tells g m (ReadsBlock r b) Succeeded busy = refl
-task_tells g m (ReadsBlock r b) (Gave v) busy = refl
-task_tells g m (FlushesFor r) Failed busy = refl
-task_tells g m (FlushesFor r) Succeeded busy = refl
-task_tells g m (FlushesFor r) (Gave v) busy = refl
+task_tells g m (WritesBlock r b) reply busy = call_tells g m (WritesBlock r b) reply refl
+task_tells g m (ReadsBlock r b) reply busy = call_tells g m (ReadsBlock r b) reply refl
+task_tells g m (FlushesFor r) reply busy = call_tells g m (FlushesFor r) reply refl
 task_tells g m (DiscardsFor r) reply busy = refl
-task_tells g m (Acts taken) reply busy = act_tells g taken taken.hand reply
+task_tells g m (Acts taken) reply busy = call_tells g m (Acts taken) reply refl
 
 -- ----------------------------------------------------------------------------------------------------------------
 -- What follows from one step.

@@ -18,7 +18,7 @@ use Rattle.bow_units.specs.declared.statuses.Kind.TheVariants as kinds
 use Rattle.bow_copy.specs.declared.jobs.Job.TheVariants as jobs
 use Rattle.bow_ranges.specs.Kinds.{kind_at, with_kind, is_free, count_of}
 use Rattle.bow_ranges.specs.Picks.{picked}
-use Rattle.bow_machine.specs.Calls.{Reply, Failed, Succeeded, Gave}
+use Rattle.bow_machine.specs.Calls.{Reply}
 use Rattle.bow_machine.specs.Memory.{Memory, Hand, Empty, Batching, Preparing, Committing, ReadsBlock0, WritesFirstLog, FlushesAll, Batch, has_command, is_direct, is_kind_current}
 use Rattle.bow_machine.specs.MemoryIsSound.{MemoryIsSound}
 use Rattle.bow_machine.specs.Requests.{Request, request_of, is_reserved, unsettled, refusal, first_of}
@@ -32,7 +32,7 @@ use Rattle.bow_machine.proofs.SoundLists.{own_tickets}
 use Rattle.bow_machine.proofs.Tickets.{found_own}
 use Rattle.bow_core.specs.Refusals.{ReachesBeyond, WritesMagic, Changes, IsRead, FailsTest, HasNoPlace, IsRefused, IsRefusal}
 use Rattle.bow_core.specs.Steps.{done_by}
-use Rattle.bow_core.proofs.Telling.{acts_tell}
+use Rattle.bow_core.proofs.Telling.{may_call, calls_tell}
 
 -- ----------------------------------------------------------------------------------------------------------------
 -- The tests, in the code's words and in the reader's.
@@ -179,27 +179,16 @@ tells_refusal told = false
 answered_parts : (t u : Ticket) (op other : Op) (o p : Outcome) → Answered t op o ≡ Answered u other p → (t ≡ u) × (o ≡ p)
 answered_parts t u op other o p is = (cc is, cc is)
 
-by_reply : (P : Reply → Type 0) → P Failed → P Succeeded → ((v : List ℕ) → P (Gave v)) → (reply : Reply) → P reply
-by_reply P failed succeeded gave Failed = failed
-by_reply P failed succeeded gave Succeeded = succeeded
-by_reply P failed succeeded gave (Gave v) = gave v
-
 module _ (g : Geometry) (m : Memory) (reply : Reply) where
   -- the task refuses nothing
   abbrev Serves : Task → Type 0
   Serves task = tells_refusal (done_by g m task reply).told ≡ false
 
+  calls_serve : (task : Task) → may_call task ≡ true → Serves task
+  calls_serve task calls = calls_tell (λ told. tells_refusal told ≡ false) refl (λ r n. refl) (λ r. refl) (λ t i. refl) (λ t i. refl) g m task reply calls
+
   acts_serve : (acting : Memory) → Serves (Acts acting)
-  acts_serve acting = acts_tell (λ told. tells_refusal told ≡ false) refl (λ r n. refl) (λ r. refl) g acting acting.hand reply
-
-  wrote_serves : (r : Request) (b : ℕ) → Serves (WritesBlock r b)
-  wrote_serves r b = by_reply (λ reply. tells_refusal (done_by g m (WritesBlock r b) reply).told ≡ false) refl refl (λ v. refl) reply
-
-  got_serves : (r : Request) (b : ℕ) → Serves (ReadsBlock r b)
-  got_serves r b = by_reply (λ reply. tells_refusal (done_by g m (ReadsBlock r b) reply).told ≡ false) refl refl (λ v. refl) reply
-
-  flushed_serves : (r : Request) → Serves (FlushesFor r)
-  flushed_serves r = by_reply (λ reply. tells_refusal (done_by g m (FlushesFor r) reply).told ≡ false) refl refl (λ v. refl) reply
+  acts_serve acting = calls_serve (Acts acting) refl
 
   -- what tells a refusal so
   abbrev Tells : Task → Ticket → Op → Outcome → Type 0
@@ -227,7 +216,7 @@ module _ (g : Geometry) (m : Memory) (reply : Reply) where
     request_refuses : (r : Request) (op : Op) → Tells (task_for g m r op) t asked outcome → Refuses r op
     request_refuses r (Read e p) tells =
         let task : Task = cond (r.done == e.count) (Answers r outcomes.Data) (ReadsBlock r (e.first + r.done)) in
-        let own = unless r (refusal g m.phase (Read e p)) task (cond_both (r.done == e.count) (Answers r outcomes.Data) (ReadsBlock r (e.first + r.done)) Serves (λ full. refl) (λ more. got_serves r (e.first + r.done))) tells in
+        let own = unless r (refusal g m.phase (Read e p)) task (cond_both (r.done == e.count) (Answers r outcomes.Data) (ReadsBlock r (e.first + r.done)) Serves (λ full. refl) (λ more. calls_serve (ReadsBlock r (e.first + r.done)) refl)) tells in
         (own.0, inl tt, own.1)
     request_refuses r (Write e p) tells =
         let b = e.first + r.done in
@@ -235,7 +224,7 @@ module _ (g : Geometry) (m : Memory) (reply : Reply) where
         let left : Task = cond (r.done == e.count) (Answers r outcomes.Done) direct in
         let task : Task = cond (is_waiting m r) Waits left in
         let serves = cond_both (is_waiting m r) Waits left Serves (λ waits. refl) (λ first. cond_both (r.done == e.count) (Answers r outcomes.Done) direct Serves (λ full. refl)
-        (λ more. cond_both (is_direct m m.phase b) (WritesBlock r b) Waits Serves (λ now. wrote_serves r b) (λ held. refl))) in
+        (λ more. cond_both (is_direct m m.phase b) (WritesBlock r b) Waits Serves (λ now. calls_serve (WritesBlock r b) refl) (λ held. refl))) in
         let ready = free (unless_refused r (refusal g m.phase (Write e p)) task) tells in
         let own = unless r (refusal g m.phase (Write e p)) task serves ready.1 in
         (own.0, inr ready.0, own.1)
@@ -245,7 +234,7 @@ module _ (g : Geometry) (m : Memory) (reply : Reply) where
         (own.0, inr ready.0, own.1)
     request_refuses r Flush tells =
         let ready = free (unless_refused r (refusal g m.phase Flush) (FlushesFor r)) tells in
-        let own = unless r (refusal g m.phase Flush) (FlushesFor r) (flushed_serves r) ready.1 in
+        let own = unless r (refusal g m.phase Flush) (FlushesFor r) (calls_serve (FlushesFor r) refl) ready.1 in
         (own.0, inr ready.0, own.1)
     request_refuses r Prepare tells = never Waits t asked outcome refl is tells
     request_refuses r Commit tells = never Waits t asked outcome refl is tells

@@ -1,14 +1,13 @@
 -- The saved blocks stay known where blocks are given other kinds.
 use Rattle.std.proofs.Common.{ℕ, ◌+◌, ◌≡◌, ◌<◌, ◌≤◌, Bool, true, false, cond, List, length, refl, sym, ap, ◌∙◌, arith, inl, inr}
 use Rattle.std.specs.Prelude.{◌&&◌, ◌==◌, ◌-◌, not, map, replicate}
-use Rattle.std.proofs.lemmas.Bool.{eqb-true, false≢true}
+use Rattle.std.proofs.lemmas.Bool.{eqb-true}
 use Rattle.std.proofs.lemmas.List.{same_lists, get_or_default, get_or-replicate, length-replicate}
 use Rattle.std.specs.List.{list_any}
 use Rattle.bow_units.specs.declared.sizes.Extent.{Extent}
 use Rattle.bow_units.specs.declared.requests.Phase.{Phase}
-use Rattle.bow_units.specs.declared.requests.Phase.TheVariants.{Trim, Arming, Checkpoint, Deciding, Committed}
 use Rattle.bow_units.specs.declared.statuses.Kind.{Kind}
-use Rattle.bow_units.specs.declared.statuses.Kind.TheVariants.{Sector0, Current, Unchanged, Free, Changed, Backup, Saved}
+use Rattle.bow_units.specs.declared.statuses.Kind.TheVariants.{Sector0, Unchanged, Free, Changed, Saved}
 use Rattle.bow_ranges.specs.Kinds.{kind_at, holds, with_kind, reclaimed, kind_reclaimed, is_changed}
 use Rattle.bow_machine.specs.Memory.{kind_written, kinds_written}
 use Rattle.bow_machine.proofs.Tables.{length_with, length_unsaved, kind_in, kind_out, kind_unsaved, holds_cases}
@@ -38,27 +37,10 @@ saved_to table new e saved kind set inside old other is = rw set (saved_set tabl
 
 -- a write in place saves no block
 pub written_unsaved : (phase : Phase) (kind : Kind) → is_saved kind ≡ false → is_saved (kind_written phase kind) ≡ false
-written_unsaved Trim kind is = refl
-written_unsaved Checkpoint Free is = refl
-written_unsaved Checkpoint Sector0 is = refl
-written_unsaved Checkpoint Current is = refl
-written_unsaved Checkpoint Unchanged is = refl
-written_unsaved Checkpoint Changed is = refl
-written_unsaved Checkpoint Backup is = refl
-written_unsaved Checkpoint Saved is = is
-written_unsaved Arming kind is = is
-written_unsaved Deciding kind is = is
-written_unsaved Committed kind is = is
+written_unsaved phase kind is = grind (arith, is)
 
 reclaimed_same : (t : Bool) (kind : Kind) → is_saved (cond (is_changed kind && t) Free kind) ≡ is_saved kind
-reclaimed_same true Changed = refl
-reclaimed_same false Changed = refl
-reclaimed_same t Sector0 = refl
-reclaimed_same t Current = refl
-reclaimed_same t Unchanged = refl
-reclaimed_same t Free = refl
-reclaimed_same t Backup = refl
-reclaimed_same t Saved = refl
+reclaimed_same t kind = grind arith
 
 -- neither does a discard
 pub saved_reclaimed : (table new : List Kind) (e saved : Extent) (but : List Extent) → new ≡ reclaimed table e but → length new ≡ length table → SavedIs table saved → SavedIs new saved
@@ -82,31 +64,13 @@ above_inside e n some inside = go (e.first == 0) refl
 -- A batch saves blocks, and in the end they are changed.
 
 is_saved_is : (kind : Kind) → is_saved kind ≡ true → kind ≡ Saved
-is_saved_is Saved is = refl
-is_saved_is Sector0 is = absurd (false≢true is)
-is_saved_is Current is = absurd (false≢true is)
-is_saved_is Unchanged is = absurd (false≢true is)
-is_saved_is Free is = absurd (false≢true is)
-is_saved_is Changed is = absurd (false≢true is)
-is_saved_is Backup is = absurd (false≢true is)
+is_saved_is kind is = grind (arith, is)
 
 not_saved_is : (kind : Kind) → is_saved kind ≡ false → unsaved kind ≡ kind
-not_saved_is Saved is = absurd (false≢true (sym is))
-not_saved_is Sector0 is = refl
-not_saved_is Current is = refl
-not_saved_is Unchanged is = refl
-not_saved_is Free is = refl
-not_saved_is Changed is = refl
-not_saved_is Backup is = refl
+not_saved_is kind is = grind (arith, is)
 
 pub not_saved : (kind : Kind) → (kind ≡ Saved → ⊥) → is_saved kind ≡ false
-not_saved Saved other = absurd (other refl)
-not_saved Sector0 other = refl
-not_saved Current other = refl
-not_saved Unchanged other = refl
-not_saved Free other = refl
-not_saved Changed other = refl
-not_saved Backup other = refl
+not_saved kind other = grind (arith, other)
 
 pub same_kinds : (xs ys : List Kind) → length xs ≡ length ys → ((b : ℕ) → b < length xs → kind_at xs b ≡ kind_at ys b) → xs ≡ ys
 same_kinds xs ys sizes each = same_lists xs ys sizes (λ b d inside. get_or_default xs b d Unchanged inside ∙ each b inside ∙ get_or_default ys b Unchanged d (omega (arith, sizes, inside)))

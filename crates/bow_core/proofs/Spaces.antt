@@ -15,7 +15,7 @@ use Rattle.bow_queue.specs.Requests.{is_command}
 use Rattle.bow_queue.specs.declared.tickets.Ticket.{Ticket}
 use Rattle.bow_machine.specs.Requests.{Request, request_of, is_reserved, unsettled, refusal}
 use Rattle.bow_machine.specs.Memory.{Memory, Empty, Committing, FlushesAll, has_command, is_direct}
-use Rattle.bow_machine.specs.Calls.{Reply, Failed, Succeeded, Gave}
+use Rattle.bow_machine.specs.Calls.{Reply}
 use Rattle.bow_machine.specs.Tasks.{Task, Waits, Answers, WritesBlock, ReadsBlock, FlushesFor, DiscardsFor, Acts, task_of, task_for, map_task, take_first, taken, command_task, worker_task, first_of, is_waiting, unless_refused, unless_command}
 use Rattle.bow_machine.specs.declared.turns.Turn.TheVariants.{Worker, Command}
 use Rattle.bow_machine.specs.Steps.{Told, Answered, call_of, extent_of}
@@ -30,7 +30,7 @@ use Rattle.bow_core.specs.Steps.{done_by}
 use Rattle.bow_machine.specs.Steps.{unknown}
 use Rattle.bow_machine.specs.declared.turns.Turn.{Turn}
 use Rattle.bow_machine.specs.declared.turns.Turn.TheVariants as turns
-use Rattle.bow_core.proofs.Telling.{acts_tell}
+use Rattle.bow_core.proofs.Telling.{may_call, calls_tell}
 
 -- it tells of no space
 abbrev tells_none : Told → Bool
@@ -58,26 +58,12 @@ refusal_other g p Flush = unsettled_other p
 refusal_other g p Prepare = tt
 refusal_other g p Commit = tt
 
-by_reply : (P : Reply → Type 0) → P Failed → P Succeeded → ((v : List ℕ) → P (Gave v)) → (reply : Reply) → P reply
-by_reply P failed succeeded gave Failed = failed
-by_reply P failed succeeded gave Succeeded = succeeded
-by_reply P failed succeeded gave (Gave v) = gave v
-
 module _ (g : Geometry) (m : Memory) (reply : Reply) where
   abbrev Spared : Task → Type 0
   Spared task = tells_none (done_by g m task reply).told ≡ false
 
-  acts_spared : (taken : Memory) → Spared (Acts taken)
-  acts_spared taken = acts_tell (λ told. tells_none told ≡ false) refl (λ r n. refl) (λ r. refl) g taken taken.hand reply
-
-  wrote_spared : (r : Request) (b : ℕ) → Spared (WritesBlock r b)
-  wrote_spared r b = by_reply (λ reply. tells_none (done_by g m (WritesBlock r b) reply).told ≡ false) refl refl (λ v. refl) reply
-
-  got_spared : (r : Request) (b : ℕ) → Spared (ReadsBlock r b)
-  got_spared r b = by_reply (λ reply. tells_none (done_by g m (ReadsBlock r b) reply).told ≡ false) refl refl (λ v. refl) reply
-
-  flushed_spared : (r : Request) → Spared (FlushesFor r)
-  flushed_spared r = by_reply (λ reply. tells_none (done_by g m (FlushesFor r) reply).told ≡ false) refl refl (λ v. refl) reply
+  calls_spared : (task : Task) → may_call task ≡ true → Spared task
+  calls_spared task calls = calls_tell (λ told. tells_none told ≡ false) refl (λ r n. refl) (λ r. refl) (λ t i. refl) (λ t i. refl) g m task reply calls
 
   -- a request's own turn finds space, or is refused for another cause
   unless_spared : (r : Request) (o : Option Outcome) (task : Task) → Other o → Spared task → Spared (unless_refused r o task)
@@ -88,12 +74,12 @@ module _ (g : Geometry) (m : Memory) (reply : Reply) where
   free_spared task spared = cond_both (has_command m.hand) Waits task Spared (λ busy. refl) (λ free. spared)
 
   request_spared : (r : Request) (op : Op) → Spared (task_for g m r op)
-  request_spared r (Read e p) = unless_spared r (refusal g m.phase (Read e p)) _ (refusal_other g m.phase (Read e p)) (cond_both (r.done == e.count) (Answers r outcomes.Data) (ReadsBlock r (e.first + r.done)) Spared (λ full. refl) (λ more. got_spared r (e.first + r.done)))
+  request_spared r (Read e p) = unless_spared r (refusal g m.phase (Read e p)) _ (refusal_other g m.phase (Read e p)) (cond_both (r.done == e.count) (Answers r outcomes.Data) (ReadsBlock r (e.first + r.done)) Spared (λ full. refl) (λ more. calls_spared (ReadsBlock r (e.first + r.done)) refl))
   request_spared r (Write e p) = free_spared _ (unless_spared r (refusal g m.phase (Write e p)) _ (refusal_other g m.phase (Write e p)) (cond_both (is_waiting m r) Waits _ Spared (λ waits. refl) (λ first.
       cond_both (r.done == e.count) (Answers r outcomes.Done) _ Spared (λ full. refl) (λ more.
-      cond_both (is_direct m m.phase (e.first + r.done)) (WritesBlock r (e.first + r.done)) Waits Spared (λ direct. wrote_spared r (e.first + r.done)) (λ held. refl)))))
+      cond_both (is_direct m m.phase (e.first + r.done)) (WritesBlock r (e.first + r.done)) Waits Spared (λ direct. calls_spared (WritesBlock r (e.first + r.done)) refl) (λ held. refl)))))
   request_spared r (Discard e) = free_spared _ (unless_spared r (refusal g m.phase (Discard e)) (DiscardsFor r) (refusal_other g m.phase (Discard e)) refl)
-  request_spared r Flush = free_spared _ (unless_spared r (refusal g m.phase Flush) (FlushesFor r) (refusal_other g m.phase Flush) (flushed_spared r))
+  request_spared r Flush = free_spared _ (unless_spared r (refusal g m.phase Flush) (FlushesFor r) (refusal_other g m.phase Flush) (calls_spared (FlushesFor r) refl))
   request_spared r Prepare = refl
   request_spared r Commit = refl
 
@@ -104,7 +90,7 @@ module _ (g : Geometry) (m : Memory) (reply : Reply) where
   -- in Checkpoint no command finds no space
   taken_spared : (r : Request) (op : Op) → Spared (taken m r op Checkpoint)
   taken_spared r Prepare = refl
-  taken_spared r Commit = acts_spared (record m { hand = Committing r.ticket false FlushesAll })
+  taken_spared r Commit = calls_spared (Acts (record m { hand = Committing r.ticket false FlushesAll })) refl
   taken_spared r (Read e p) = refl
   taken_spared r (Write e p) = refl
   taken_spared r (Discard e) = refl
