@@ -1,5 +1,5 @@
 -- Each command has one name, and each name is one word.
-use Rattle.std.proofs.Common.{◌≡◌, ◌==◌, ◌∙◌, ◌+◌, ◌*◌, ℕ, Bool, Option, refl, sym, ap, subst, length, get_or}
+use Rattle.std.proofs.Common.{◌≡◌, ◌==◌, ◌∙◌, ◌+◌, ◌*◌, ℕ, Bool, Option, refl, sym, ap, subst, length, get_or, arith}
 use Rattle.std.specs.Prelude.{if◌then◌else◌}
 use Rattle.clap.specs.Words.{Text}
 use Rattle.bow_words.specs.Names.{text_of}
@@ -77,20 +77,7 @@ IsNamed Past c = (n first count : ℕ) × (c ≡ command.Past n first count)
 IsNamed Callers c = c ≡ command.Callers
 
 pub spelled : (c : Command) → name_of c ≡ text_of (kind_of c)
-spelled (command.Play n) = refl
-spelled (command.Run n) = refl
-spelled (command.Restore limit) = refl
-spelled command.Check = refl
-spelled command.Forward = refl
-spelled (command.Start n) = refl
-spelled command.Mark = refl
-spelled command.NeedsCheckpoint = refl
-spelled command.NeedsRollback = refl
-spelled (command.Abort retry) = refl
-spelled command.Boot = refl
-spelled (command.Drill n) = refl
-spelled (command.Past n first count) = refl
-spelled command.Callers = refl
+spelled c = grind arith
 
 pub of_kind : (c : Command) → IsNamed (kind_of c) c
 of_kind (command.Play n) = (n, refl)

@@ -1,5 +1,5 @@
 -- The words of each command, as a user writes them, ask for it.
-use Rattle.std.proofs.Common.{◌≡◌, inl, inr, ◌<◌, ◌≤◌, ◌^◌, ◌-◌, ℕ, true, false, List, [], ◌∷◌, None, Some, refl, sym, subst, arith, codes, length, rules}
+use Rattle.std.proofs.Common.{◌≡◌, inl, inr, ◌+◌, ◌<◌, ◌≤◌, ◌^◌, ◌-◌, ℕ, true, false, List, [], ◌∷◌, None, Some, refl, sym, subst, arith, codes, length, rules}
 use Rattle.std.specs.List.{list_all}
 use Rattle.std.specs.Char.{is_ascii_digit}
 use Rattle.std.specs.Fmt.{decimal}
@@ -15,36 +15,15 @@ use Rattle.bow_words.proofs.Positionals.{IsPlainWord, digit_plain, past_taken}
 use Rattle.bow_words.specs.declared.commands.Command.{Command}
 use Rattle.bow_words.specs.declared.commands.Command.TheVariants as command
 
+-- a number from here on is this one, or from the next on
+from_here : (P : ℕ → Type 0) (n x : ℕ) → P n → n ≤ x → (n + 1 ≤ x → P x) → P x
+from_here P n x here low above = elim (cases_eq x n) [ inl is ↦ subst P (sym is) here | inr ne ↦ above (omega (arith, low, ne)) ]
+
 -- one of the ten digits
 ten : (P : ℕ → Type 0) → P 48 → P 49 → P 50 → P 51 → P 52 → P 53 → P 54 → P 55 → P 56 → P 57 → (x : ℕ) → 48 ≤ x → x ≤ 57 → P x
-ten P a b c d e f g h i j x low high = elim (cases_eq x 48) [
-  | inl is ↦ subst P (sym is) a
-  | inr n0 ↦ elim (cases_eq x 49) [
-    | inl is ↦ subst P (sym is) b
-    | inr n1 ↦ elim (cases_eq x 50) [
-      | inl is ↦ subst P (sym is) c
-      | inr n2 ↦ elim (cases_eq x 51) [
-        | inl is ↦ subst P (sym is) d
-        | inr n3 ↦ elim (cases_eq x 52) [
-          | inl is ↦ subst P (sym is) e
-          | inr n4 ↦ elim (cases_eq x 53) [
-            | inl is ↦ subst P (sym is) f
-            | inr n5 ↦ elim (cases_eq x 54) [
-              | inl is ↦ subst P (sym is) g
-              | inr n6 ↦ elim (cases_eq x 55) [
-                | inl is ↦ subst P (sym is) h
-                | inr n7 ↦ elim (cases_eq x 56) [
-                  | inl is ↦ subst P (sym is) i
-                  | inr n8 ↦ subst P (let last : 57 ≡ x = omega (arith, low, high, n0, n1, n2, n3, n4, n5, n6, n7, n8) in last) j
-                ]
-              ]
-            ]
-          ]
-        ]
-      ]
-    ]
-  ]
-]
+ten P a b c d e f g h i j x low high =
+    from_here P 48 x a low (λ l. from_here P 49 x b l (λ l. from_here P 50 x c l (λ l. from_here P 51 x d l (λ l. from_here P 52 x e l (λ l.
+    from_here P 53 x f l (λ l. from_here P 54 x g l (λ l. from_here P 55 x h l (λ l. from_here P 56 x i l (λ l. from_here P 57 x j l (λ l. absurd (omega (arith, l, high))))))))))))
 
 -- clap takes one word that begins with a digit, and finds it
 abbrev pub NumberTaken : List ℕ → ℕ → Type 0
