@@ -5,7 +5,8 @@ use Rattle.std.proofs.Math.Nat.{mul-le-mul_right}
 use Rattle.std.proofs.lemmas.Bool.{cases_Bool, eqb-true, false≢true}
 use Rattle.bow_units.specs.declared.sizes.Geometry.{Geometry}
 use Rattle.bow_units.specs.declared.sizes.Extent.{Extent}
-use Rattle.bow_units.specs.declared.requests.Op.TheVariants.{Flush}
+use Rattle.bow_units.specs.declared.requests.Op.{Op}
+use Rattle.bow_units.specs.declared.requests.Op.TheVariants.{Flush, Read, Write}
 use Rattle.bow_units.specs.declared.requests.Outcome.{Outcome}
 use Rattle.bow_units.specs.declared.requests.Outcome.TheVariants as outcomes
 use Rattle.bow_units.specs.declared.requests.Phase.{Phase}
@@ -76,17 +77,10 @@ module _ (m : Memory) (t : Ticket) (o : Outcome) (happens : List Event) (some : 
 -- No direct write falls on a saved block.
 
 unchanged_open : (kind : Kind) → (kind ≡ kinds.Free) ⊎ (kind ≡ kinds.Unchanged) → is_saved kind ≡ false
-unchanged_open kind (inl is) = rw is refl
-unchanged_open kind (inr is) = rw is refl
+unchanged_open kind is = grind (arith, is)
 
 written_open : (kind : Kind) → may_be_written kind ≡ true → is_saved kind ≡ false
-written_open kinds.Changed is = refl
-written_open kinds.Free is = refl
-written_open kinds.Sector0 is = refl
-written_open kinds.Current is = refl
-written_open kinds.Unchanged is = refl
-written_open kinds.Backup is = refl
-written_open kinds.Saved is = absurd (false≢true is)
+written_open kind is = grind (arith, is)
 
 pub trim_open : (g : Geometry) (m : Memory) → MemoryIsSound g m → m.phase ≡ Trim → (b : ℕ) → b < g.blocks → is_saved (kind_at m.kinds b) ≡ false
 trim_open g m s phase b inside = go m.log (subst (λ p. LogIsHeld g m.kinds m.clean m.trimmed (reserved m.hand).count p m.log) phase s.log) (cases_Bool (b == 0))
@@ -131,25 +125,22 @@ module _ (g : Geometry) (m : Memory) (s : MemoryIsSound g m) (t : Ticket) (b : �
   pub read_place : task_of g m (Map t) ≡ ReadsBlock (the_request t m.requests) b → place_of m b < g.blocks
   read_place task = subst (λ k. IsOnDevice g (call_of g m k)) task (calls_are_on_device g m (Map t) s)
 
+  -- a transfer that goes on has its next block in its payload
+  room : (op : Op) (e : Extent) → (IsAdmissible g op → IsTransfer g e (payload_of op)) → (the_request t m.requests).op ≡ op → request_of (the_request t m.requests).ticket m.requests ≡ Some (the_request t m.requests) → (the_request t m.requests).done < e.count
+      → ((the_request t m.requests).done < 16) × (((the_request t m.requests).done + 1) * g.block_size ≤ length (payload_of (the_request t m.requests).op))
+  room op e transfer is found left =
+      let r = the_request t m.requests in
+      let waits : IsWaiting g r = found_waiting g r.ticket m.requests r s.requests found in
+      let room = transfer_room g e (payload_of op) r.done (transfer (subst (IsAdmissible g) is waits.op)) left in
+      (room.0, subst (λ op. (r.done + 1) * g.block_size ≤ length (payload_of op)) (sym is) room.1)
+
   pub write_room : task_of g m (Map t) ≡ WritesBlock (the_request t m.requests) b
       → ((the_request t m.requests).done < 16) × (((the_request t m.requests).done + 1) * g.block_size ≤ length (payload_of (the_request t m.requests).op))
-  write_room task =
-      let r = the_request t m.requests in
-      let w = write_next task in
-      let is : IsWaiting g r = found_waiting g r.ticket m.requests r s.requests w.request.found in
-      let whole : IsTransfer g w.extent w.payload = subst (IsAdmissible g) w.op is.op in
-      let room = transfer_room g w.extent w.payload r.done whole w.left in
-      (room.0, subst (λ op. (r.done + 1) * g.block_size ≤ length (payload_of op)) (sym w.op) room.1)
+  write_room task = let w = write_next task in room (Write w.extent w.payload) w.extent (λ whole. whole) w.op w.request.found w.left
 
   pub read_room : task_of g m (Map t) ≡ ReadsBlock (the_request t m.requests) b
       → ((the_request t m.requests).done < 16) × (((the_request t m.requests).done + 1) * g.block_size ≤ length (payload_of (the_request t m.requests).op))
-  read_room task =
-      let r = the_request t m.requests in
-      let w = read_next task in
-      let is : IsWaiting g r = found_waiting g r.ticket m.requests r s.requests w.request.found in
-      let whole : IsTransfer g w.extent w.payload = subst (IsAdmissible g) w.op is.op in
-      let room = transfer_room g w.extent w.payload r.done whole w.left in
-      (room.0, subst (λ op. (r.done + 1) * g.block_size ≤ length (payload_of op)) (sym w.op) room.1)
+  read_room task = let w = read_next task in room (Read w.extent w.payload) w.extent (λ whole. whole) w.op w.request.found w.left
 
   pub write_open : task_of g m (Map t) ≡ WritesBlock (the_request t m.requests) b → (b < g.blocks) × (is_saved (kind_at m.kinds b) ≡ false)
   write_open task = let w = write_next task in (w.inside, direct_open g m b s w.inside w.direct)

@@ -1,9 +1,10 @@
 -- The saved blocks stay known where blocks are given other kinds.
-use Rattle.std.proofs.Common.{ℕ, ◌+◌, ◌≡◌, ◌<◌, ◌≤◌, Bool, true, false, cond, List, length, refl, sym, ap, ◌∙◌, arith, inl, inr}
+use Rattle.std.proofs.Common.{ℕ, ◌+◌, ◌≡◌, ◌<◌, ◌≤◌, Bool, true, false, cond, List, length, Option, refl, sym, ap, ◌∙◌, arith, inl, inr}
 use Rattle.std.specs.Prelude.{◌&&◌, ◌==◌, ◌-◌, not, map, replicate}
 use Rattle.std.proofs.lemmas.Bool.{eqb-true}
 use Rattle.std.proofs.lemmas.List.{same_lists, get_or_default, get_or-replicate, length-replicate}
 use Rattle.std.specs.List.{list_any}
+use Rattle.bow_units.specs.declared.sizes.Geometry.{Geometry}
 use Rattle.bow_units.specs.declared.sizes.Extent.{Extent}
 use Rattle.bow_units.specs.declared.requests.Phase.{Phase}
 use Rattle.bow_units.specs.declared.statuses.Kind.{Kind}
@@ -14,7 +15,8 @@ use Rattle.bow_machine.proofs.Tables.{length_with, length_unsaved, kind_in, kind
 use Rattle.bow_guard.specs.Device.{unsaved}
 use Rattle.bow_ranges.proofs.KindLists.{kind_at-reclaimed}
 use Rattle.bow_machine.specs.Steps.{above_0}
-use Rattle.bow_core.specs.Inside.{is_saved, SavedIs}
+use Rattle.bow_log.specs.Spelling.{Fields}
+use Rattle.bow_core.specs.Inside.{is_saved, IsKept, LogFits, SavedIs}
 
 -- blocks that are not saved are given a kind that is not saved either
 pub saved_set : (table : List Kind) (e saved : Extent) (kind : Kind) → e.first + e.count ≤ length table → ((b : ℕ) → e.first ≤ b → b < e.first + e.count → is_saved (kind_at table b) ≡ false) → is_saved kind ≡ false
@@ -140,3 +142,8 @@ written_same phase table block within same = elim (block == 0) as (λ t. cond t 
   | true ↦ refl
   | false ↦ ap (with_kind table (record { first = block; count = 1 })) same ∙ kept_kind table (record { first = block; count = 1 }) (kind_at table block) (omega (arith, within)) (λ b low high. ap (kind_at table) (omega (arith, low, high)))
 ]
+
+-- What the device keeps is in order with another table of its blocks, another log and other saved blocks.
+pub kept_with : {g : Geometry} {table new : List Kind} {queued : ℕ} {buffer block : List ℕ} {log now : Option Fields} {saved next : Extent}
+    → IsKept g table queued buffer block log saved → length new ≡ length table → LogFits g now → SavedIs new next → IsKept g new queued buffer block now next
+kept_with k long fits is = record { valid = k.valid; whole = long ∙ k.whole; blocks = k.blocks; eight = k.eight; one = k.one; log = fits; saved = is }

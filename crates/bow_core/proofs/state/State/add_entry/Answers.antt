@@ -12,6 +12,7 @@ use Rattle.bow_core.specs.Held.{Held, with_memory}
 use Rattle.bow_core.specs.Inside.{SavedIs}
 use Rattle.bow_core.proofs.BatchDone.{held_slots}
 use Rattle.bow_core.proofs.Changing.{copy_backup, copy_inside, copy_log, copy_room, copy_saved, copy_slots}
+use Rattle.bow_core.proofs.Saved.{kept_with}
 use Rattle.bow_core.proofs.state.State.add_entry.Given.{Over}
 use Rattle.bow_core.proofs.state.State.add_entry.Goals.{After-self, In-Some, After-set}
 use Rattle.bow_core.proofs.state.State.add_entry.Goals as goal
@@ -67,15 +68,7 @@ add-requires-clause-room g c =
 pub invariant_of-self : goal.invariant_of-self
 invariant_of-self g c =
     let k = c.self.invariant in
-    record {
-      valid = k.valid;
-      whole = c.set.ensures.blocks ∙ k.whole;
-      eight = k.eight;
-      one = k.one;
-      log = c.add.ensures.log;
-      blocks = k.blocks;
-      saved = (saves g (goal.at.invariant_of-self g c).After-set).0;
-    }
+    kept_with k c.set.ensures.blocks c.add.ensures.log (saves g (goal.at.invariant_of-self g c).After-set).0
 
 pub returns : goal.returns
 returns g c =

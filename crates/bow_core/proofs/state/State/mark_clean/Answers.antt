@@ -3,21 +3,13 @@ use Rattle.bow_guard.specs.Device.{unsaved}
 use Rattle.bow_units.specs.declared.statuses.Kind.{Kind}
 use Rattle.bow_machine.specs.Memory.{Empty}
 use Rattle.bow_core.specs.Held.{Held, with_memory}
-use Rattle.bow_core.proofs.Saved.{unsaved_is, saved_none}
+use Rattle.bow_core.proofs.Saved.{kept_with, unsaved_is, saved_none}
 use Rattle.bow_core.proofs.state.State.mark_clean.Goals as goal
 
 pub invariant_of-self : goal.invariant_of-self
 invariant_of-self g c =
     let k = c.self.invariant in
-    record {
-      valid = k.valid;
-      whole = c.set.ensures.blocks ∙ k.whole;
-      eight = k.eight;
-      one = k.one;
-      log = k.log;
-      blocks = k.blocks;
-      saved = saved_none (g.R.Ranges.kinds c.self.inside.table) (g.R.Ranges.kinds c.set.new.self) c.self.inside.saved c.run-self-inside.result c.set.ensures.set k.saved c.run-self-inside.ensures.first c.run-self-inside.ensures.count;
-    }
+    kept_with k c.set.ensures.blocks k.log (saved_none (g.R.Ranges.kinds c.self.inside.table) (g.R.Ranges.kinds c.set.new.self) c.self.inside.saved c.run-self-inside.result c.set.ensures.set k.saved c.run-self-inside.ensures.first c.run-self-inside.ensures.count)
 
 pub returns : goal.returns
 returns g c =
