@@ -154,14 +154,18 @@ not_whole h count known tree t short fits = elim (cases_lt known.first.count (bl
       absurd (omega (arith, front_is, longest_is, short, fits))
 ]
 
+-- the heights of a table's tree
+pub up_to_five : (P : ℕ → Type 0) → P 0 → P 1 → P 2 → P 3 → P 4 → P 5 → (h : ℕ) → h ≤ 5 → P h
+up_to_five P a b c d e f zero few = a
+up_to_five P a b c d e f (suc zero) few = b
+up_to_five P a b c d e f (suc (suc zero)) few = c
+up_to_five P a b c d e f (suc (suc (suc zero))) few = d
+up_to_five P a b c d e f (suc (suc (suc (suc zero)))) few = e
+up_to_five P a b c d e f (suc (suc (suc (suc (suc zero))))) few = f
+up_to_five P a b c d e f (suc (suc (suc (suc (suc (suc n)))))) few = absurd (omega (arith, few))
+
 pub blocks_few : (h : ℕ) → h ≤ 5 → blocks_of h ≤ 1048576
-blocks_few zero h = omega arith
-blocks_few (suc zero) h = omega arith
-blocks_few (suc (suc zero)) h = omega arith
-blocks_few (suc (suc (suc zero))) h = omega arith
-blocks_few (suc (suc (suc (suc zero)))) h = omega arith
-blocks_few (suc (suc (suc (suc (suc zero))))) h = omega arith
-blocks_few (suc (suc (suc (suc (suc (suc n)))))) h = absurd (omega (arith, h))
+blocks_few = up_to_five (λ h. blocks_of h ≤ 1048576) (omega arith) (omega arith) (omega arith) (omega arith) (omega arith) (omega arith)
 
 -- the rows of a node
 abbrev pub rows_in : ℕ → Store → List (List Kind)

@@ -6,7 +6,7 @@ use Rattle.std.proofs.lemmas.Nat.{div-add-mod'}
 use Rattle.bow_tree.specs.Trees.{Store, blocks_of, width_of, room_of, first_tree, other_trees}
 use Rattle.bow_tree.specs.Rooms.{rooms_of, room_for, HasRoom, HaveRoom}
 use Rattle.bow_tree.proofs.Pieces.{times_less}
-use Rattle.bow_tree.proofs.Descents.{blocks_some}
+use Rattle.bow_tree.proofs.Descents.{blocks_some, up_to_five}
 
 -- no blocks take no room
 pub room_none : (h : ℕ) → room_for h 0 ≡ 0
@@ -144,13 +144,7 @@ pub leaf_room : (h n : ℕ) (tree : Store) → 0 < n → HasRoom h n tree → 16
 leaf_room h n tree some r = omega (arith, some, r.kinds)
 
 pub rooms_few : (h : ℕ) → h ≤ 5 → room_of h ≤ 69904
-rooms_few zero h = omega arith
-rooms_few (suc zero) h = omega arith
-rooms_few (suc (suc zero)) h = omega arith
-rooms_few (suc (suc (suc zero))) h = omega arith
-rooms_few (suc (suc (suc (suc zero)))) h = omega arith
-rooms_few (suc (suc (suc (suc (suc zero))))) h = omega arith
-rooms_few (suc (suc (suc (suc (suc (suc n)))))) h = absurd (omega (arith, h))
+rooms_few = up_to_five (λ h. room_of h ≤ 69904) (omega arith) (omega arith) (omega arith) (omega arith) (omega arith) (omega arith)
 
 -- the same of a height above 0
 pub room_opened : (h n : ℕ) → 0 < h → 0 < n → room_for h n ≡ width_of (h - 1) + rooms_of (room_for (h - 1)) (h - 1) n
