@@ -67,24 +67,14 @@ written_other phase table b x on ne = elim (cases_eq b 0) [
   | inr above ↦ ap (λ (t : List Kind). kind_at t x) (kinds_above phase table b above) ∙ kind_other table b (kind_written phase (kind_at table b)) x on ne
 ]
 
--- no other block than 0 becomes block 0
-no_sector0 : (phase : Phase) (kind : Kind) → kind_written phase kind ≡ Sector0 → kind ≡ Sector0
-no_sector0 Trim kind e = absurd (grind arith)
-no_sector0 Checkpoint Free e = absurd (grind arith)
-no_sector0 Checkpoint Sector0 e = e
-no_sector0 Checkpoint Current e = e
-no_sector0 Checkpoint Unchanged e = e
-no_sector0 Checkpoint Changed e = e
-no_sector0 Checkpoint Backup e = e
-no_sector0 Checkpoint Saved e = e
-no_sector0 Arming kind e = e
-no_sector0 Deciding kind e = e
-no_sector0 Committed kind e = e
+-- no write in place makes another block block 0, or saves one
+pub written_was : (phase : Phase) (kind new : Kind) → (new ≡ Sector0) ⊎ (new ≡ Saved) → kind_written phase kind ≡ new → kind ≡ new
+written_was phase kind new sort is = grind (arith, sort, is)
 
 pub table_written : (g : Geometry) (phase : Phase) (table : List Kind) (b : ℕ) → b < g.blocks → IsTable g table → IsTable g (kinds_written phase table b)
 table_written g phase table b on t = elim (cases_eq b 0) [
   | inl e ↦ subst (IsTable g) (sym (kinds_at_0 phase table b e)) t
-  | inr ne ↦ subst (IsTable g) (sym (kinds_above phase table b ne)) (table_with g table (one_block b) (kind_written phase (kind_at table b)) (λ e. ne (t.only_0 b on (no_sector0 phase (kind_at table b) e))) (omega (arith, on)) (inl (omega (arith, ne))) t)
+  | inr ne ↦ subst (IsTable g) (sym (kinds_above phase table b ne)) (table_with g table (one_block b) (kind_written phase (kind_at table b)) (λ e. ne (t.only_0 b on (written_was phase (kind_at table b) Sector0 (inl refl) e))) (omega (arith, on)) (inl (omega (arith, ne))) t)
 ]
 
 -- what a write in place finds, and the kind after it

@@ -26,7 +26,7 @@ use Rattle.bow_machine.specs.MemoryIsSound.{LogIsHeld, PrepareIsSound, CommitIsS
 use Rattle.bow_machine.specs.MemoryLaws.{CanHaveIt}
 use Rattle.bow_machine.specs.Ties.{IsNextOf, SavedIsNext, IsLeftOf, TouchedIsLeft, LogGoesOn, LogsGoOn, IsTouchedStill, CoveredStaysTouched, ArmingIsUntouched, CheckpointFollows}
 use Rattle.bow_machine.proofs.Tables.{kind_with, kind_freed}
-use Rattle.bow_machine.proofs.MappedWrites.{kinds_at_0, written_here, written_other}
+use Rattle.bow_machine.proofs.MappedWrites.{kinds_at_0, written_here, written_other, written_was}
 use Rattle.bow_machine.proofs.MappedDiscards.{above_fits}
 use Rattle.bow_machine.proofs.SoundTasks.{WritesNext, ActsOn, IsFresh, DiscardsNow, TaskIsSound, task_by, batch_in_hand}
 use Rattle.bow_machine.proofs.SoundBatches.{same_log}
@@ -40,25 +40,12 @@ use Rattle.std.specs.List.{list_any}
 -- A request's turn saves no block.
 
 -- no block is saved by a write
-written_saved : (p : Phase) (k : Kind) → kind_written p k ≡ Saved → k ≡ Saved
-written_saved Trim k is = absurd (grind arith)
-written_saved Checkpoint Free is = absurd (grind arith)
-written_saved Checkpoint Sector0 is = is
-written_saved Checkpoint Current is = is
-written_saved Checkpoint Unchanged is = is
-written_saved Checkpoint Changed is = is
-written_saved Checkpoint Backup is = is
-written_saved Checkpoint Saved is = is
-written_saved Arming k is = is
-written_saved Deciding k is = is
-written_saved Committed k is = is
-
 write_saves : (p : Phase) (table : List Kind) (b x : ℕ) → b < length table → kind_at (kinds_written p table b) x ≡ Saved → kind_at table x ≡ Saved
 write_saves p table b x on is = elim (cases_eq x b) [
   | inr ne ↦ sym (written_other p table b x on ne) ∙ is
   | inl same ↦ elim (cases_eq b 0) [
     | inl zeroth ↦ sym (ap (λ (t : List Kind). kind_at t x) (kinds_at_0 p table b zeroth)) ∙ is
-    | inr above ↦ ap (kind_at table) same ∙ written_saved p (kind_at table b) (sym (written_here p table b above on) ∙ ap (kind_at (kinds_written p table b)) (sym same) ∙ is)
+    | inr above ↦ ap (kind_at table) same ∙ written_was p (kind_at table b) Saved (inr refl) (sym (written_here p table b above on) ∙ ap (kind_at (kinds_written p table b)) (sym same) ∙ is)
   ]
 ]
 
