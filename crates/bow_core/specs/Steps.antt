@@ -1,5 +1,5 @@
 -- One step of the device: one step of the machine.
-use Rattle.std.specs.Prelude.{◌≡◌, ◌↔◌, ℕ, true, List, [], Option, Some}
+use Rattle.std.specs.Prelude.{◌≡◌, ◌↔◌, ℕ, true, List, Option, Some}
 use Rattle.bow_units.specs.declared.sizes.Geometry.{Geometry}
 use Rattle.bow_disk.specs.Disk.{Content}
 use Rattle.bow_machine.specs.Memory.{Memory}

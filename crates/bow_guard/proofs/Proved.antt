@@ -1,13 +1,13 @@
 -- The laws.
-use Rattle.std.proofs.Common.{ℕ, ◌<◌, Bool, true, List, [], ◌∷◌, ◌++◌, ◌≡◌, ◌≢◌, arith, refl, sym, ap, ◌∙◌, subst, inl, inr}
+use Rattle.std.proofs.Common.{ℕ, List, [], ◌∷◌, ◌++◌, ◌≡◌, ◌≢◌, arith, refl, sym, ap, ◌∙◌, subst, inl, inr}
 use Rattle.std.specs.List.{AllByRecursion as Each}
 use Rattle.bow_units.specs.declared.sizes.Geometry.{Geometry}
-use Rattle.bow_log.specs.Generations.{Backup, Generation, IsBackup, StartsWith0, IsGeneration}
-use Rattle.bow_chain.specs.Contents.{Contents, run_of}
-use Rattle.bow_chain.specs.Sound.{log_in, sum_at}
+use Rattle.bow_log.specs.Generations.{Backup, IsBackup, StartsWith0, IsGeneration}
+use Rattle.bow_chain.specs.Contents.{run_of}
+use Rattle.bow_chain.specs.Sound.{sum_at}
 use Rattle.bow_chain.proofs.Moved.{run_same}
 use Rattle.bow_chain.proofs.Counting.{some_inj}
-use Rattle.bow_guard.specs.Device.{IsLoose, Steady, Safe, Device, LogGiven, with_backup}
+use Rattle.bow_guard.specs.Device.{Steady, Safe, Device, LogGiven, with_backup}
 use Rattle.bow_guard.specs.Guard.{KeptBehind}
 use Rattle.bow_guard.specs.Laws.{CutsKeep, KeptAtSafePlaces, SafeIsNotLoose, LooseWrites, LooseKinds, FlushKeeps, LastFlush, CopiesLogged, LinkLogged, MoveLogged, LogRewritten, CutsStand, WritesInPlace, WritesToFree, ReadsInPlace, FlushesInPlace, DiscardsInPlace, PrepareArms, FirstLogGiven, ReadsArming, PrepareEnds, CommitDecides, DecidesAgain, FlushesDeciding, ReadsDeciding, CommitEnds, Together, CutsAreAhead}
 use Rattle.bow_guard.proofs.Kept.{same_keeps}

@@ -10,8 +10,8 @@ use Rattle.bow_flat.specs.Valid.{IsState}
 use Rattle.bow_disk.specs.Disk.{Content, IsShaped, IsCrash, Same, Offered, Written, Flushed}
 use Rattle.bow_log.specs.Generations.{Backup, Generation, IsGeneration}
 use Rattle.bow_chain.specs.Contents.{Contents, contents_of, with_block, run_of}
-use Rattle.bow_chain.specs.Places.{hop, pass, base, InSource}
-use Rattle.bow_chain.specs.Sound.{log_in, sum_at, StandsBehind, IsSound}
+use Rattle.bow_chain.specs.Places.{hop, InSource}
+use Rattle.bow_chain.specs.Sound.{log_in, sum_at}
 use Rattle.bow_chain.specs.Kept.{IsPlain, Keeps, Holds}
 use Rattle.bow_guard.specs.Cuts.{Candidates, candidates_of, IsCut, IsFlushed, WriteGiven}
 use Rattle.bow_guard.specs.Device.{Device, Safe, IsLoose, Touches, SameLogs, IsClean, LogGiven, over, with_backup}

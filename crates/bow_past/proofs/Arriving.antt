@@ -35,7 +35,7 @@ use Rattle.bow_play.specs.Playing.{IsFresh}
 use Rattle.bow_play.proofs.Ends.{ahead_opened, leads_on, standing_told, stands_opened}
 use Rattle.bow_play.proofs.Runs.{begins_at}
 use Rattle.bow_past.specs.Running.{RanBeside}
-use Rattle.bow_past.proofs.Twin.{Twin, IsTwin, cuts_shaped_by, only_now_by, shaped_by}
+use Rattle.bow_past.proofs.Twin.{Twin, cuts_shaped_by, only_now_by, shaped_by}
 use Rattle.bow_past.proofs.Twinned.{HasTwin, IsPair, IsTold, content_by, faults_by, first_by, moment_by, pair_at, run_by, since_by, stated_by}
 
 module _ {D : Type 0} (stated : D → Option Geometry) (content : D → Option Content) (moment : D → ℕ) (left : D → ℕ → List (List ℕ) → Type 0) (faults : D → ℕ)

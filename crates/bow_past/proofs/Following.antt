@@ -1,5 +1,5 @@
 -- A run beside a reader, from its beginning to its end.
-use Rattle.std.proofs.Common.{◌≡◌, ◌⊎◌, inl, inr, ℕ, zero, suc, ◌-◌, Bool, true, false, cond, List, [], Option, Some, None, Result, Ok, Err, ◌≤◌, arith, refl, sym, ap, ◌∙◌, subst}
+use Rattle.std.proofs.Common.{◌≡◌, inl, inr, ℕ, zero, suc, ◌-◌, cond, List, [], Option, Some, None, Result, Ok, Err, ◌≤◌, refl, sym, ap, ◌∙◌, subst}
 use Rattle.std.specs.Prelude.{nat_le, slice_get}
 use Rattle.std.proofs.lemmas.Bool.{cases_Bool}
 use Rattle.bow_units.specs.Draws.{next_number}
@@ -16,7 +16,6 @@ use Rattle.bow_history.specs.Journal.{Legal, Place, beginning}
 use Rattle.bow_history.specs.Sessions.{Session, Turned}
 use Rattle.bow_history.specs.SoundSessions.{IsSoundSession}
 use Rattle.bow_history.proofs.Runs.{beginning_is_at, nothing_lags}
-use Rattle.bow_session.specs.Runs.{begun_over}
 use Rattle.bow_session.specs.Sessions.{IsOver, Run, plan_in, state_in}
 use Rattle.bow_session.specs.Turns.{IsOneTurn}
 use Rattle.bow_session.proofs.Cutting.{sound_is_idle}
@@ -26,13 +25,13 @@ use Rattle.bow_play.specs.Leading.{read_in}
 use Rattle.bow_play.proofs.Runs.{begins_at}
 use Rattle.bow_past.specs.Agreement.{Agrees as AgreesWith}
 use Rattle.bow_past.specs.Beside.{IsBeside, IsNew, MaybeAgrees}
-use Rattle.bow_past.specs.Readings.{Reading, bytes_got, bytes_of}
+use Rattle.bow_past.specs.Readings.{Reading, bytes_got}
 use Rattle.bow_past.specs.Running.{PlaysBeside, ReadsTheCheckpoint, StepsAt, failures_of, got_of, reader_after}
 use Rattle.bow_past.specs.declared.ended.Ended.{Ended}
 use Rattle.bow_past.specs.declared.ended.PastStep.{PastStep}
 use Rattle.bow_past.proofs.Clauses.{still_agrees}
 use Rattle.bow_past.proofs.Playing.{begun_twin, plays_twin, step_twin}
-use Rattle.bow_past.proofs.Tracking.{Tracks, TracksBy, tracks_reads, tracks_turn}
+use Rattle.bow_past.proofs.Tracking.{Tracks, tracks_reads, tracks_turn}
 use Rattle.bow_past.proofs.Turning.{turns_keep_agreement}
 use Rattle.bow_past.proofs.Twinned.{HasTwin, told_before}
 

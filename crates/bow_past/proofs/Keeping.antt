@@ -1,21 +1,19 @@
 -- What a step beside a reader keeps, and that the reader's steps come to an end.
-use Rattle.std.proofs.Common.{◌≡◌, ◌≢◌, ◌⊎◌, inl, inr, ℕ, zero, suc, ◌+◌, ◌-◌, ◌<◌, ◌≤◌, ◌++◌, true, false, List, [], ◌∷◌, length, length-append, Option, Some, None, Result, Ok, Err, arith, refl, sym, ap, ◌∙◌, subst}
+use Rattle.std.proofs.Common.{◌≡◌, inl, inr, ℕ, zero, suc, ◌+◌, ◌-◌, ◌<◌, ◌≤◌, ◌++◌, true, false, List, [], ◌∷◌, length, length-append, Option, Some, None, Result, Ok, Err, arith, refl, sym, ap, ◌∙◌, subst}
 use Rattle.std.proofs.lemmas.Bool.{cases_eq}
 use Rattle.bow_units.specs.declared.failures.NoMemory.{NoMemory}
-use Rattle.bow_units.specs.declared.requests.Phase.{Phase}
 use Rattle.bow_units.specs.declared.sizes.Geometry.{Geometry}
 use Rattle.bow_disk.specs.Disk.{Content, IsShaped}
 use Rattle.bow_log.specs.Generations.{Generation}
 use Rattle.bow_log.specs.Spelling.{Fields}
-use Rattle.bow_flat.specs.Flat.{Flat, put}
-use Rattle.bow_core.specs.Standing.{StandsIn}
+use Rattle.bow_flat.specs.Flat.{put}
 use Rattle.bow_machine.proofs.MappedWrites.{put_here, put_there}
 use Rattle.bow_history.specs.declared.items.Actor.{Actor}
 use Rattle.bow_core.specs.Calls.{DoesOne}
 use Rattle.bow_history.specs.Sessions.{Turned, Admits, Steps, call_in}
 use Rattle.bow_history.specs.SoundSessions.{IsSoundSession}
 use Rattle.bow_session.specs.Sessions.{Run, plan_in, state_in}
-use Rattle.bow_session.specs.Turns.{IsOneTurn, PassesTurn, StepsBy}
+use Rattle.bow_session.specs.Turns.{IsOneTurn, StepsBy}
 use Rattle.bow_past.specs.Agreement.{Agrees, AgreesOver}
 use Rattle.bow_past.specs.Beside.{IsBeside, MaybeAgrees}
 use Rattle.bow_past.specs.Readings.{Reading, can_read, kept_of, missing_below, with_ended}

@@ -1,5 +1,5 @@
 -- A whole run beside a reader: what its writers see of the session goes on being one that was loaded.
-use Rattle.std.proofs.Common.{◌≡◌, ◌⊎◌, inl, inr, ℕ, zero, suc, ◌+◌, ◌≤◌, ◌^◌, ◌-◌, min, ◌++◌, List, [], ◌∷◌, Option, Some, None, Result, Ok, Err, arith, refl, sym, ap, ◌∙◌, subst}
+use Rattle.std.proofs.Common.{◌≡◌, inl, inr, ℕ, zero, suc, ◌+◌, ◌≤◌, ◌^◌, ◌-◌, min, List, [], ◌∷◌, Option, Some, None, Result, Ok, Err, arith, sym, ap, ◌∙◌, subst}
 use Rattle.std.specs.List.{sum_by}
 use Rattle.std.proofs.lemmas.List.Sums.{sum_by-append, sum_by-cons}
 use Rattle.bow_units.specs.Draws.{next_number}
@@ -8,19 +8,17 @@ use Rattle.bow_units.specs.declared.sizes.Geometry.{Geometry}
 use Rattle.bow_disk.specs.Disk.{Content, IsCrash, IsImage, IsShaped}
 use Rattle.bow_core.specs.Views.{View}
 use Rattle.bow_session.specs.Leads.{WasLoaded}
-use Rattle.bow_session.specs.Loading.{loaded}
 use Rattle.bow_session.specs.Sessions.{Run}
-use Rattle.bow_machine.specs.Calls.{Failed as FailedReply, Gave, Reply}
 use Rattle.bow_play.specs.Beginning.{HasBegun}
 use Rattle.bow_past.specs.Readings.{Reading, with_ended}
-use Rattle.bow_past.specs.Running.{PlaysBeside, ReadsOn, StepsAt, failures_of, is_failed, reader_after}
+use Rattle.bow_past.specs.Running.{PlaysBeside, StepsAt, failures_of, is_failed, reader_after}
 use Rattle.bow_past.specs.Steps.{IsPastStep}
 use Rattle.bow_past.specs.declared.ended.Ended.{Ended}
 use Rattle.bow_past.specs.declared.ended.Ended.TheVariants.{Got, Failed, Strange}
 use Rattle.bow_past.specs.declared.ended.PastStep.{PastStep}
 use Rattle.bow_past.specs.declared.ended.PastStep.TheVariants as steps
 use Rattle.bow_past.proofs.Clauses.{image}
-use Rattle.bow_past.proofs.Twinned.{HasTwin, failed_by, has_read, has_turned, loaded_twin, told_before}
+use Rattle.bow_past.proofs.Twinned.{HasTwin, has_read, has_turned, loaded_twin, told_before}
 
 -- ----------------------------------------------------------------------------------------------------------------
 -- How many reads failed.

@@ -1,24 +1,21 @@
 -- The way of the journal beside a reader, and what the reader got on it.
-use Rattle.std.proofs.Common.{◌≡◌, ◌≢◌, ◌⊎◌, inl, inr, ℕ, zero, suc, ◌+◌, ◌-◌, ◌<◌, ◌≤◌, ◌++◌, Bool, true, false, cond, List, [], ◌∷◌, length, Option, Some, None, Result, Ok, Err, arith, refl, sym, ap, ◌∙◌, subst}
-use Rattle.std.specs.Prelude.{nat_le, slice_get, if◌then◌else◌}
+use Rattle.std.proofs.Common.{◌≡◌, ◌⊎◌, inl, inr, ℕ, zero, suc, ◌+◌, ◌-◌, ◌≤◌, ◌++◌, cond, List, [], ◌∷◌, length, Option, Some, None, Result, Ok, Err, arith, refl, sym, ap, ◌∙◌, subst}
+use Rattle.std.specs.Prelude.{nat_le, slice_get}
 use Rattle.std.proofs.lemmas.Bool.{cases_Bool}
 use Rattle.std.proofs.lemmas.List.{append-nil, append_assoc}
-use Rattle.bow_units.specs.Draws.{next_number}
 use Rattle.bow_units.specs.declared.failures.NoMemory.{NoMemory}
 use Rattle.bow_units.specs.declared.requests.Phase.TheVariants.{Checkpoint}
 use Rattle.bow_units.specs.declared.sizes.Geometry.{Geometry}
 use Rattle.bow_disk.specs.Disk.{Content, IsShaped}
-use Rattle.bow_chain.specs.Contents.{contents_of}
 use Rattle.bow_chain.proofs.Counting.{some_inj}
-use Rattle.bow_flat.specs.Flat.{Flat, opening}
-use Rattle.bow_guard.specs.Cuts.{candidates_of}
+use Rattle.bow_flat.specs.Flat.{Flat}
 use Rattle.bow_machine.specs.Deeds.{deed_of}
 use Rattle.bow_core.specs.Standing.{StandsIn, StandsOver}
 use Rattle.bow_history.specs.declared.items.Item.{Item}
 use Rattle.bow_history.specs.DiskCuts.{disk_of}
 use Rattle.bow_history.specs.Fits.{Agrees, IsAt}
 use Rattle.bow_history.specs.Histories.{Disk}
-use Rattle.bow_history.specs.Journal.{Buffers, ItemStep, Legal, Place, Plan, beginning}
+use Rattle.bow_history.specs.Journal.{Buffers, ItemStep, Legal, Place, Plan}
 use Rattle.bow_history.specs.Promises.{items}
 use Rattle.bow_history.specs.Sessions.{Session, Turned, after_turn, item_in}
 use Rattle.bow_history.specs.SoundSessions.{IsSoundSession}

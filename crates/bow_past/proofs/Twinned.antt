@@ -3,7 +3,6 @@ use Rattle.std.proofs.Common.{◌≡◌, ℕ, ◌+◌, ◌-◌, ◌^◌, ◌<◌
 use Rattle.std.specs.Prelude.{slice_index_or}
 use Rattle.std.specs.Option.{option_map}
 use Rattle.std.proofs.lemmas.Bool.{cases_lt}
-use Rattle.bow_units.specs.Causes.{Rose}
 use Rattle.bow_units.specs.declared.sizes.Geometry.{Geometry}
 use Rattle.bow_disk.specs.Disk.{Content, Goes, IsCrash, IsShaped, IsImage, Elapses, TimeGoes}
 use Rattle.bow_machine.specs.Calls.{Call, Reply, ReadCall, Failed, Succeeded, Gave}
@@ -15,16 +14,14 @@ use Rattle.bow_history.specs.DiskCuts.{HasCuts, disk_of}
 use Rattle.bow_history.specs.Promises.{IsSession, RunsOver, more}
 use Rattle.bow_history.specs.Sessions.{Turned, Admits, Steps, call_in, item_in}
 use Rattle.bow_script.specs.declared.scripts.Line.{Line}
-use Rattle.bow_session.specs.Cuts.{CutsAreOfRun}
-use Rattle.bow_session.specs.Leads.{WasLoaded, StaysBelow}
+use Rattle.bow_session.specs.Leads.{WasLoaded}
 use Rattle.bow_session.specs.Loading.{loaded}
-use Rattle.bow_session.specs.Runs.{IsRun, begun_over, view_of}
+use Rattle.bow_session.specs.Runs.{begun_over, view_of}
 use Rattle.bow_session.specs.Sessions.{Run, plan_in, state_in}
 use Rattle.bow_session.specs.Turns.{IsOneTurn, PassesTurn}
 use Rattle.bow_session.proofs.Leading.{loaded_fresh, loaded_on}
-use Rattle.bow_play.specs.Beginning.{HasBegun}
 use Rattle.bow_past.specs.Steps.{ReadsBeside}
-use Rattle.bow_past.proofs.Twin.{Twin, IsTwin, at_from, at_high, at_low, beside_left, beside_twin, cuts_shaped_by, first_twin, left_by, next_goes, next_twin, one_more, one_more_is, only_now_by, shaped_by}
+use Rattle.bow_past.proofs.Twin.{Twin, IsTwin, at_from, at_high, at_low, beside_left, beside_twin, first_twin, left_by, next_goes, next_twin, one_more, one_more_is, only_now_by, shaped_by}
 
 -- what the disk told before a call, where it tells a content after it
 pub told_before : (P : Content → Content → Type 0) (o n : Option Content) (f : Content) → n ≡ Some f → Goes P o n → (c : Content) × (o ≡ Some c)

@@ -25,7 +25,7 @@ use Rattle.bow_history.specs.declared.items.Item.TheVariants as items
 use Rattle.bow_history.specs.Histories.{session_after}
 use Rattle.bow_history.specs.Journal.{Plan}
 use Rattle.bow_history.specs.Promises.{items as listed, more}
-use Rattle.bow_history.specs.Sessions.{Session, Turned, Steps, lane_of, answered_in, told_to, after_turn, item_of, item_in, call_in, IsFor}
+use Rattle.bow_history.specs.Sessions.{Session, Steps, answered_in, told_to, after_turn, item_of, item_in, call_in, IsFor}
 use Rattle.bow_session.specs.Runs.{begun_over}
 use Rattle.bow_session.proofs.Running.{on_device}
 use Rattle.bow_tags.specs.declared.view.Entry.{Entry}
@@ -46,7 +46,7 @@ use Rattle.bow_receipts.proofs.Calls.{answered_more, got_more, wrote_more}
 use Rattle.bow_receipts.proofs.Lists.{Below, at_within, filter_at, in_filter, in_single, below_next, below_other, filter_in, filter_more, filter_other, filter_out, index_set_here, index_set_there, map_more, more_at, over_equal, over_more, set_length}
 use Rattle.bow_receipts.proofs.OpAsks.{for_ask, for_blocks, read_front}
 use Rattle.bow_receipts.proofs.Staying.{kept_still, serves_still}
-use Rattle.bow_receipts.proofs.Serving.{HandOf, IsOfWaiting, actor_for, after_is, answered_item, asked_lane, asks_now, fits_ask, got_item, hand_of, item_is, may, memory, same_lane, seat, sizes_are, sound, st, waits, wrote_item}
+use Rattle.bow_receipts.proofs.Serving.{HandOf, IsOfWaiting, actor_for, after_is, answered_item, asks_now, fits_ask, got_item, hand_of, item_is, may, memory, same_lane, seat, sound, st, waits, wrote_item}
 use Rattle.bow_receipts.proofs.Turns.{cuts_on, did_step, fine_on, push, session_on}
 
 -- one moment for each item

@@ -3,13 +3,11 @@ use Rattle.std.proofs.Common.{◌≡◌, ℕ, ◌+◌, ◌-◌, ◌^◌, ◌≤�
 use Rattle.std.specs.Option.{option_map}
 use Rattle.bow_units.specs.Causes.{Rose}
 use Rattle.bow_units.specs.declared.sizes.Geometry.{Geometry}
-use Rattle.bow_disk.specs.Disk.{Content, IsCrash, IsShaped, Goes}
-use Rattle.bow_machine.specs.Calls.{Call, Reply, Failed, Succeeded, calls_in, Passes}
+use Rattle.bow_disk.specs.Disk.{Content, IsCrash, IsShaped}
+use Rattle.bow_machine.specs.Calls.{Call, Reply, Failed, Succeeded, calls_in}
 use Rattle.bow_machine.specs.MemoryLaws.{IsOnDevice}
-use Rattle.bow_core.specs.Calls.{DoesOne, HasFault}
 use Rattle.bow_core.specs.Ports.{Makes}
 use Rattle.bow_core.specs.Views.{View}
-use Rattle.bow_core.proofs.Leading.{does_it}
 use Rattle.bow_history.specs.Cuts.{NoneFails}
 use Rattle.bow_history.specs.DiskCuts.{disk_of, HasCuts}
 use Rattle.bow_history.specs.Histories.{session_after}

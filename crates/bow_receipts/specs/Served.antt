@@ -9,7 +9,7 @@ use Rattle.bow_history.specs.Cuts.{NoneFails}
 use Rattle.bow_history.specs.DiskCuts.{disk_of, HasCuts}
 use Rattle.bow_history.specs.Ends.{over_lanes}
 use Rattle.bow_history.specs.Journal.{Plan}
-use Rattle.bow_history.specs.Promises.{Core, IsSession, state_of}
+use Rattle.bow_history.specs.Promises.{IsSession, state_of}
 use Rattle.bow_history.specs.Promises as promised
 use Rattle.bow_history.specs.Sessions.{Turned}
 use Rattle.bow_history.specs.declared.items.Item.{Item}

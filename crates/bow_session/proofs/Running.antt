@@ -18,7 +18,7 @@ use Rattle.bow_history.specs.Journal.{Plan}
 use Rattle.bow_history.specs.Sessions.{Session, Turned, Admits, Steps, turn_of, after_turn, item_in, call_in, call_of_turn, reply_in, IsTurn}
 use Rattle.bow_history.specs.Histories.{session_after}
 use Rattle.bow_history.specs.SoundSessions.{IsSoundSession}
-use Rattle.bow_history.specs.Promises.{items, more, held, Did, TurnGoes, IsSession}
+use Rattle.bow_history.specs.Promises.{items, more, held, Did}
 use Rattle.bow_history.specs.Promises as promised
 use Rattle.bow_history.specs.DiskCuts.{disk_of}
 use Rattle.bow_history.proofs.Sessions.{turns_keep_session}

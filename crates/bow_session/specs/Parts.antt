@@ -1,5 +1,5 @@
 -- What callers see of what a session leaves apart from its device.
-use Rattle.std.specs.Prelude.{ℕ, List}
+use Rattle.std.specs.Prelude.{List}
 use Rattle.bow_units.specs.declared.sizes.Geometry.{Geometry}
 use Rattle.bow_script.specs.declared.scripts.Line.{Line}
 use Rattle.bow_history.specs.declared.items.Item.{Item}

@@ -1,5 +1,5 @@
 use Rattle.std.proofs.Common.{◌-◌, ◌*◌, ◌∙◌, sym, ap, length, arith, refl}
-use Rattle.std.specs.Prelude.{bit_xor, slice_index}
+use Rattle.std.specs.Prelude.{bit_xor}
 use Rattle.bow_crc.specs.Crc.{bits_out, crc_of}
 use Rattle.bow_crc.specs.Lanes.{number, behind}
 use Rattle.bow_crc.proofs.Numbers.{starts, goes_on, joined}

@@ -1,4 +1,4 @@
-use Rattle.std.proofs.Common.{◌≡◌, ◌<◌, ◌≤◌, ◌+◌}
+use Rattle.std.proofs.Common.{◌≡◌, ◌<◌, ◌+◌}
 use Rattle.bow_session.specs.Sessions.{plan_in, state_in}
 use Rattle.bow_past.specs.Beside.{first_ready_at}
 use Rattle.bow_past.specs.Running.{first_from, is_reading, is_ready_at}

@@ -1,12 +1,12 @@
-use Rattle.std.proofs.Common.{◌≡◌, ◌+◌, ◌-◌, ◌<◌, ◌≤◌, ◌%◌, inl, inr, ℕ, suc, zero, Bool, true, false, None, Some, arith, refl, sym, ap, ◌∙◌, subst}
+use Rattle.std.proofs.Common.{◌≡◌, ◌+◌, ◌-◌, ◌<◌, ◌≤◌, ◌%◌, inl, inr, ℕ, suc, Bool, true, false, Some, arith, refl, sym, ap, ◌∙◌, subst}
 use Rattle.std.proofs.lemmas.Bool.{cases_Bool, false≢true}
 use Rattle.bow_units.specs.Draws.{drawn_value, next_number}
 use Rattle.bow_history.specs.declared.items.Actor.{Actor}
 use Rattle.bow_history.specs.Ready.{is_actor_ready}
 use Rattle.bow_session.specs.Requests.{lanes_of}
-use Rattle.bow_session.specs.Sessions.{IsOver, Run, plan_in, state_in}
+use Rattle.bow_session.specs.Sessions.{Run, plan_in, state_in}
 use Rattle.bow_session.specs.Turns.{StepsBy}
-use Rattle.bow_past.specs.Running.{PlaysBeside, chosen_beside, first_from, is_reading, is_ready_at}
+use Rattle.bow_past.specs.Running.{PlaysBeside, first_from, is_reading, is_ready_at}
 use Rattle.bow_past.proofs.Choosing.{first_ready, none_left, reader_at, session_at}
 use Rattle.bow_past.proofs.Keeping.{reading_left, reads_less, reads_still}
 use Rattle.bow_past.proofs.running.next_actor.Given.{Over}

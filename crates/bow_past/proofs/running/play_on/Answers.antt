@@ -1,4 +1,4 @@
-use Rattle.std.proofs.Common.{◌<◌, ◌≡◌, refl, sym, ap, ◌∙◌, subst}
+use Rattle.std.proofs.Common.{◌<◌, ap, ◌∙◌, subst}
 use Rattle.bow_history.specs.Ends.{turns_left}
 use Rattle.bow_session.specs.Requests.{requests_in}
 use Rattle.bow_session.specs.Sessions.{Run, plan_in, state_in}

@@ -1,6 +1,5 @@
-use Rattle.std.proofs.Common.{ap, ◌∙◌, subst}
+use Rattle.std.proofs.Common.{subst}
 use Rattle.bow_units.specs.Sizes.{IsValid}
-use Rattle.bow_session.specs.Sessions.{Run}
 use Rattle.bow_session.proofs.Cutting.{sound_is_idle}
 use Rattle.bow_session.proofs.Leading.{kept_agrees}
 use Rattle.bow_past.specs.Running.{failures_of}

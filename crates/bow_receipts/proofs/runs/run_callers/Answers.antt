@@ -1,4 +1,4 @@
-use Rattle.std.proofs.Common.{◌≡◌, ◌≤◌, ◌∙◌, ℕ, List, length, arith, refl, sym, ap, subst}
+use Rattle.std.proofs.Common.{◌≤◌, ◌∙◌, ℕ, List, length, arith, refl, sym, ap, subst}
 use Rattle.std.specs.Prelude.{sum}
 use Rattle.bow_session.proofs.Loads.{few_lanes}
 use Rattle.bow_receipts.proofs.Calling.{counts_few}

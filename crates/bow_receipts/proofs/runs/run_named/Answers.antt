@@ -1,4 +1,4 @@
-use Rattle.std.proofs.Common.{◌≡◌, List, length, sym, ap, subst, ◌∙◌}
+use Rattle.std.proofs.Common.{List, length, sym, ap, subst, ◌∙◌}
 use Rattle.bow_tags.specs.Seats.{Numbered}
 use Rattle.bow_receipts.specs.Called.{InOrder}
 use Rattle.bow_receipts.specs.Closing.{IsClosed, entries_of}

@@ -1,4 +1,4 @@
-use Rattle.std.proofs.Common.{◌+◌, ◌≤◌, ◌≡◌, length, arith, sym, ap}
+use Rattle.std.proofs.Common.{length, arith, ap}
 use Rattle.bow_past.specs.Readings.{Reading}
 use Rattle.bow_past.proofs.readers.Past.extent.Goals as goal
 

@@ -1,4 +1,4 @@
-use Rattle.std.proofs.Common.{◌≡◌, ◌∙◌, sym, refl}
+use Rattle.std.proofs.Common.{◌∙◌, sym, refl}
 use Rattle.std.proofs.lemmas.Option.{same_Some}
 use Rattle.bow_queue.specs.Requests.{fresh_request}
 use Rattle.bow_queue.proofs.RequestLemmas.{admitted_requests, admitted_sound, sound_orderly, put_twice, same_len}

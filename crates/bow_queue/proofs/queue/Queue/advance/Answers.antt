@@ -1,6 +1,6 @@
-use Rattle.std.proofs.Common.{◌≡◌, ◌∙◌, sym, refl, arith, ap}
+use Rattle.std.proofs.Common.{◌∙◌, sym, refl, arith}
 use Rattle.std.proofs.lemmas.Option.{same_Some}
-use Rattle.bow_queue.specs.Requests.{one_done, one_read, the_request}
+use Rattle.bow_queue.specs.Requests.{one_done, the_request}
 use Rattle.bow_queue.proofs.RequestLemmas.{some_there, lies_there, has_ticket, changed_requests, changed_is_sound, sound_orderly}
 use Rattle.bow_queue.proofs.queue.Queue.advance.Goals as goal
 

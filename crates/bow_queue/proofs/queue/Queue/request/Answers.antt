@@ -1,8 +1,6 @@
-use Rattle.std.proofs.Common.{◌∙◌, ◌≡◌, Some, None, ap, sym, refl, Bool, not, false, true}
+use Rattle.std.proofs.Common.{◌∙◌, ◌≡◌, ap, sym, refl, Bool, not, false, true}
 use Rattle.std.specs.Option.{option_copied, option_map}
 use Rattle.std.proofs.lemmas.Option.{none-some, same_Some}
-use Rattle.bow_queue.specs.Requests.{same_ticket}
-use Rattle.bow_queue.specs.Insides.{ticket_at}
 use Rattle.bow_queue.proofs.RequestLemmas.{found, not_found, same_ticket-true, not_same}
 use Rattle.bow_queue.proofs.queue.Queue.request.Goals as goal
 

@@ -1,4 +1,4 @@
-use Rattle.std.proofs.Common.{◌≡◌, Some, sym}
+use Rattle.std.proofs.Common.{Some, sym}
 use Rattle.bow_session.proofs.Buffered.{answered_at, kept_there, kept_whole}
 use Rattle.bow_session.proofs.records.Records.content.Goals as goal
 
