@@ -24,17 +24,12 @@ use Rattle.bow_machine.proofs.Cuts.{machine_cut}
 use Rattle.bow_core.specs.Standing.{StandsIn, StandsOver}
 use Rattle.bow_core.specs.Views.{IsOpened, View}
 use Rattle.bow_pair.specs.Committing.{IsAtRest, IsFlushedFor}
-use Rattle.bow_pair.specs.Deciding.{AreAtRest, EachPair, RoseAt, StillForward, StillHolds, TakePart, TakesPart, WasCommitted, WasFlushed, disks_of}
+use Rattle.bow_pair.specs.Deciding.{AreAtRest, EachPair, NoneFell, RoseAt, StillForward, StillHolds, TakePart, TakesPart, WasCommitted, WasFlushed, disks_of}
 use Rattle.bow_pair.specs.Joint.{Each, HasCurrent, HoldsSaved, IsCutOf, IsForwardable, IsJointCut, Member}
+use Rattle.bow_pair.proofs.Rows.{there_too}
 
 pub fewer : {D : Type 0} (stated : D → Option Geometry) (v : View D) → IsAtRest stated 2 v → IsAtRest stated 1 v
 fewer stated v r = let serials = r.serials in record { opened = r.opened; checkpoint = r.checkpoint; idle = r.idle; places = r.places; serials = omega (arith, serials) }
-
-paired : {X Y : Type 0} (xs : List X) (ys : List Y) (k : ℕ) (x : X) → length ys ≡ length xs → slice_get xs k ≡ Some x → (y : Y) × (slice_get ys k ≡ Some y)
-paired xs ys k x same at = elim (slice_get_cases ys k).1 [
-  | inl found ↦ (found.0, found.2)
-  | inr past ↦ let low = slice_get_within xs k x at in absurd (omega (arith, low, past.0))
-]
 
 -- an image that a cut leaves of a device that stands for the state, in the checkpoint
 held_by : (g : Geometry) (m : Memory) (c : Content) (image : List (List ℕ)) (f : Flat) → IsShaped g.block_size g.blocks c → IsCrash c.candidates image → IsStanding g m (contents_of c.now) (candidates_of c.candidates) f → m.phase ≡ Checkpoint → Keeps g f.used f.saved (contents_of image)
@@ -51,7 +46,7 @@ module _ {D : Type 0} (stated : D → Option Geometry) (content : D → Option C
   forward_itself v r = record { opened = r.opened; geometry = refl; later = omega arith; images = λ f k. (k.forward).images }
 
   pub all_rest : (old new : List (View D)) → length new ≡ length old → EachPair (StillHolds stated content faults) old new → AreAtRest stated 1 new
-  all_rest old new long all k w at = let v = paired new old k w (sym long) at in (all k v.0 w v.1 at).rests
+  all_rest old new long all k w at = let v = there_too new old k w (sym long) at in (all k v.0 w v.1 at).rests
 
   -- the image of a device's disk
   pub cut_at : (cores : List (View D)) (images : ℕ → List (List ℕ)) → IsJointCut content (disks_of cores) images → (k : ℕ) (w : View D) → slice_get cores k ≡ Some w → IsCutOf content w.disk (images k)
@@ -85,7 +80,7 @@ module _ {D : Type 0} (stated : D → Option Geometry) (content : D → Option C
     pub all_held : (new : List (View D)) → length new ≡ length old → EachPair (StillHolds stated content faults) old new → (images : ℕ → List (List ℕ)) → IsJointCut content (disks_of new) images → Each HoldsSaved members images
     all_held new long kept images joint k m at =
         let p = part k m at in
-        let w = paired old new k p.0 long p.1 in
+        let w = there_too old new k p.0 long p.1 in
         held_of p.0 w.0 m (images k) p.2 (kept k p.0 w.0 p.1 w.1) (cut_at new images joint k w.0 w.1)
 
     -- once all are flushed
@@ -95,7 +90,7 @@ module _ {D : Type 0} (stated : D → Option Geometry) (content : D → Option C
     pub all_flushed : (new : List (View D)) → length new ≡ length old → EachPair (StillHolds stated content faults) old new → EachPair (WasFlushed content) old new → (images : ℕ → List (List ℕ)) → IsJointCut content (disks_of new) images → Each IsForwardable members images
     all_flushed new long kept flushed images joint k m at =
         let p = part k m at in
-        let w = paired old new k p.0 long p.1 in
+        let w = there_too old new k p.0 long p.1 in
         let holds = kept k p.0 w.0 p.1 w.1 in
         forward_of w.0 m (images k) ((p.2).sizes ∙ sym holds.geometry) (holds.rests).opened ((flushed_of p.0 w.0 m p.2 (flushed k p.0 w.0 p.1 w.1)).forward).images (cut_at new images joint k w.0 w.1)
 
@@ -104,8 +99,8 @@ module _ {D : Type 0} (stated : D → Option Geometry) (content : D → Option C
         → (images : ℕ → List (List ℕ)) → IsJointCut content (disks_of new) images → Each IsForwardable members images
     all_forward mid new long longer kept flushed still images joint k m at =
         let p = part k m at in
-        let w = paired old mid k p.0 long p.1 in
-        let u = paired mid new k w.0 longer w.1 in
+        let w = there_too old mid k p.0 long p.1 in
+        let u = there_too mid new k w.0 longer w.1 in
         let holds = kept k p.0 w.0 p.1 w.1 in
         let on = still k w.0 u.0 w.1 u.1 in
         forward_of u.0 m (images k) ((p.2).sizes ∙ sym (on.geometry ∙ holds.geometry)) on.opened (on.images m.state (flushed_of p.0 w.0 m p.2 (flushed k p.0 w.0 p.1 w.1))) (cut_at new images joint k u.0 u.1)
@@ -114,8 +109,8 @@ module _ {D : Type 0} (stated : D → Option Geometry) (content : D → Option C
         → (images : ℕ → List (List ℕ)) → IsJointCut content (disks_of new) images → Each HasCurrent members images
     all_current mid new long longer kept flushed still committed images joint k m at =
         let p = part k m at in
-        let w = paired old mid k p.0 long p.1 in
-        let u = paired mid new k w.0 longer w.1 in
+        let w = there_too old mid k p.0 long p.1 in
+        let u = there_too mid new k w.0 longer w.1 in
         let holds = kept k p.0 w.0 p.1 w.1 in
         let on = still k w.0 u.0 w.1 u.1 in
         let sizes : m.sizes ≡ (u.0).geometry = (p.2).sizes ∙ sym (on.geometry ∙ holds.geometry) in
@@ -125,9 +120,23 @@ module _ {D : Type 0} (stated : D → Option Geometry) (content : D → Option C
 
   pub rose_later : (device : ℕ) (old mid new : List (View D)) → length mid ≡ length old → EachPair (StillHolds stated content faults) old mid → RoseAt faults device mid new → RoseAt faults device old new
   rose_later device old mid new long kept rose =
-      let v = paired mid old device rose.0 (sym long) rose.2 in
+      let v = there_too mid old device rose.0 (sym long) rose.2 in
       let later = (kept device v.0 rose.0 v.1 rose.2).later in
       (v.0, rose.1, v.1, rose.3, (let r : Rose (faults (v.0).disk) (faults (rose.1).disk) = omega (arith, later, rose.4) in r))
+
+  -- no count fell in the flushes, nor in the commits behind them
+  pub flushed_count : (old new : List (View D)) → length new ≡ length old → EachPair (StillHolds stated content faults) old new → NoneFell faults old new
+  flushed_count old new long kept = record { many = long; later = λ k v w at is. (kept k v w at is).later }
+
+  pub committed_count : (old mid new : List (View D)) → length mid ≡ length old → length new ≡ length mid → EachPair (StillHolds stated content faults) old mid → EachPair (StillForward stated content faults) mid new → NoneFell faults old new
+  committed_count old mid new long again kept forward = record {
+    many = again ∙ long;
+    later = λ k v w at is.
+        let u = there_too old mid k v long at in
+        let one = (kept k v u.0 at u.1).later in
+        let other = (forward k u.0 w u.1 is).later in
+        omega (arith, one, other);
+  }
 
 pub err_changes : {T E : Type 0} (r : Result T E) (asked old new : Option (List ℕ)) → is_err r ≡ true → Changes r asked old new → (new ≡ old) ⊎ (new ≡ asked)
 err_changes (Ok x) asked old new is c = absurd (cc is)

@@ -12,7 +12,9 @@ pub mod Firsts
 pub mod Rows
 pub mod Sessions
 pub mod Joins
+pub mod Kept
 pub mod Saved
 pub mod Together
 pub mod Phases
 pub mod Played
+pub mod Rooms

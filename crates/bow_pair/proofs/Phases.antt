@@ -1,6 +1,6 @@
 -- A device that is in the checkpoint stays there while no commit waits, and it is there once a prepare was done.
 use Rattle.std.proofs.Common.{◌≡◌, inl, inr, ℕ, zero, suc, Bool, true, false, cond, List, [], ◌∷◌, Option, Some, None, refl, sym, ap, ◌∙◌, subst, arith}
-use Rattle.std.specs.Prelude.{slice_get}
+use Rattle.std.specs.Prelude.{slice_get, slice_index_or}
 use Rattle.std.specs.List.{All}
 use Rattle.std.specs.Option.{option_map}
 use Rattle.std.proofs.lemmas.List.Elements.{All-append, All-cons, All-get_or, All-nil, All-weaker}
@@ -316,8 +316,12 @@ not_asked size lines.Flush not is = grind (arith, is)
 not_asked size lines.Prepare not is = grind (arith, is)
 not_asked size lines.Commit not is = not
 
+-- what holds of all lines holds of each
+pub line_holds : (P : Line → Type 0) (lines : List Line) (n : ℕ) (line : Line) → All P lines → slice_get lines n ≡ Some line → P line
+line_holds P lines n line all at = subst P (get_or_from_slice_get lines n line line at) (All-get_or P lines n line (slice_get_within lines n line at) all)
+
 -- what holds of all requests holds of a lane's
-in_section : (P : Line → Type 0) (section : List (List Line)) (lane : ℕ) → All P (concat section) → All P (section_lines section lane)
+pub in_section : (P : Line → Type 0) (section : List (List Line)) (lane : ℕ) → All P (concat section) → All P (section_lines section lane)
 in_section P [] lane all = All-nil P
 in_section P (one ∷ rest) zero all = (all_parts P one (concat rest) all).0
 in_section P (one ∷ rest) (suc lane) all = in_section P rest lane (all_parts P one (concat rest) all).1
@@ -334,15 +338,17 @@ none_asks g script all lane n is = by (slice_get (lane_lines script lane) n) ref
     by : (o : Option Line) → slice_get (lane_lines script lane) n ≡ o → option_map (request_of_line g.block_size) o ≡ Some ops.Commit → ⊥
     by None at is = grind (arith, is)
     by (Some line) at is =
-        let not : NotCommit line = subst NotCommit (get_or_from_slice_get (lane_lines script lane) n line line at) (All-get_or NotCommit (lane_lines script lane) n line (slice_get_within (lane_lines script lane) n line at) (in_lane NotCommit script lane all)) in
-        not_asked g.block_size line not (cc is)
+        let not : NotCommit line = line_holds NotCommit (lane_lines script lane) n line (in_lane NotCommit script lane all) at in not_asked g.block_size line not (cc is)
+
+-- what holds of all requests of a script holds of a device's lanes of the first section
+pub first_lanes : (P : Line → Type 0) (device count : ℕ) (script : List (List (List Line))) → All P (requests_of script) → All P (concat (every count device (slice_index_or script 0 [])))
+first_lanes P device count [] all = all
+first_lanes P device count (section ∷ sections) all = all_lanes P count device section (all_parts P (concat section) (requests_of sections) all).0
 
 -- nor does a device's part of one that may be dealt
 part_not : (round : Round) (device count : ℕ) (script : List (List (List Line))) → All NotCommit (requests_of script) → All NotCommit (requests_of (part_for round device count script))
-part_not Opening device count [] all = All-cons NotCommit lines.Prepare [] tt all
-part_not Opening device count (section ∷ sections) all =
-    let parts = all_parts NotCommit (concat section) (requests_of sections) all in
-    All-append NotCommit (concat (every count device section)) (lines.Prepare ∷ []) (all_lanes NotCommit count device section parts.0) (All-cons NotCommit lines.Prepare [] tt (All-nil NotCommit))
+part_not Opening device count script all =
+    All-append NotCommit (concat (every count device (slice_index_or script 0 []))) (lines.Prepare ∷ []) (first_lanes NotCommit device count script all) (All-cons NotCommit lines.Prepare [] tt (All-nil NotCommit))
 part_not Later device count [] all = all
 part_not Later device count (section ∷ sections) all = all_sections NotCommit device count sections (all_parts NotCommit (concat section) (requests_of sections) all).1
 

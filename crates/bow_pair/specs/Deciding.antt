@@ -70,6 +70,11 @@ IsDecidedCaused before now faults old new (NotCommitted device) = FailsAt faults
 IsDecidedCaused before now faults old new (Unfinished device) = RoseAt faults device old new
 IsDecidedCaused before now faults old new KeeperFault = Rose before now
 
+-- as many devices as before, and of none the disk's count of faults fell
+pub record NoneFell {D : Type 0} (faults : D → ℕ) (old new : List (View D)) : Type 0 where
+  pub many : length new ≡ length old
+  pub later : EachPair (λ v w. faults v.disk ≤ faults w.disk) old new
+
 -- A device that takes part: it stands and is led for a state, and the member is that state flushed.
 pub record TakesPart {D : Type 0} (content : D → Option Content) (v : View D) (m : Member) : Type 0 where
   pub before : Flat

@@ -1,7 +1,7 @@
 // The decision of several devices.
 ghost use Rattle.std.specs.Prelude.{◌≡◌, ◌<◌, ◌^◌, ℕ, List, None, Option, Some, IfSome, length};
 ghost use Rattle.vold_meta.specs.Decisions.{commit_text};
-ghost use Rattle.bow_pair.specs.Deciding.{AgreesBy, AreAtRest, EachPair, FailsAt, IsDecidedCaused, StillForward, StillHolds, TakePart, WasCommitted, WasFlushed, disks_of};
+ghost use Rattle.bow_pair.specs.Deciding.{AgreesBy, AreAtRest, EachPair, FailsAt, IsDecidedCaused, NoneFell, StillForward, StillHolds, TakePart, WasCommitted, WasFlushed, disks_of};
 ghost use Rattle.bow_pair.specs.Joint.{IsJointCut, Member};
 ghost use Rattle.bow_pair.specs.declared.deciding.Decided.TheVariants.{NotCommitted};
 
@@ -77,6 +77,7 @@ pub fn decide<D: Disk, R: Ranges, K: Keeper>(cores: &mut [Core<D, R>], keeper: &
     // Over any disks and keeper: causes.
     ensures cause { IsDecidedCaused (K.faults keeper.old) (K.faults keeper.new) D.faults cores.old cores.new result }
     ensures untouched { (device : ℕ) → result ≡ NotCommitted device → keeper.new ≡ keeper.old }
+    ensures counts { NoneFell D.faults cores.old cores.new }
     // Over those that tell what they hold, where no text was kept: what each joint cut agrees on with the text left.
     ensures agreed { (left : Option (List ℕ)) → K.kept keeper.old ≡ Some None → K.kept keeper.new ≡ Some left
         → (members : List Member) → TakePart D.content cores.old members → (images : ℕ → List (List ℕ))

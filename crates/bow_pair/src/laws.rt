@@ -2,7 +2,7 @@
 ghost use Rattle.bow_pair.specs.BootLaws.{BootsSettle, CutsStayAgreed};
 ghost use Rattle.bow_pair.specs.Laws.{DecisionsSettle, MembersTakePart};
 ghost use Rattle.bow_pair.specs.PairLaws.{PairsEndTogether, PreparedRollBack, RunsRollBack};
-ghost use Rattle.bow_pair.specs.SessionLaws.{SessionsAreComplete, SessionsCountFaults, SessionsGoLegally, SessionsLead, SessionsTakePart};
+ghost use Rattle.bow_pair.specs.SessionLaws.{SessionsAreComplete, SessionsCountFaults, SessionsGoLegally, SessionsLead, SessionsPrepare, SessionsTakePart};
 
 use bow_disk::Disk;
 
@@ -24,12 +24,15 @@ pub fn pair_boots_law()
 /// - `faults`: the disk's count of faults rose by at least the number of items that tell one, or is at its last value.
 /// - `lead`: one that told no fault leads on from a state to another, and its journal is legal on the way.
 /// - `take_part`: the device takes part in a decision with that state, flushed.
+/// - `prepares`: a first session that told no fault, over a device that stood for a state in which nothing was prepared
+///   yet, ends with its prepare; and that was answered Done, or fewer than two blocks were free as it was asked.
 pub fn pair_sessions_law<D: Disk>()
     ensures complete { SessionsAreComplete D.stated D.content D.moment D.left_since D.faults }
     ensures legal { SessionsGoLegally D.stated D.content D.moment D.left_since D.faults }
     ensures faults { SessionsCountFaults D.stated D.content D.moment D.left_since D.faults }
     ensures lead { SessionsLead D.stated D.content D.moment D.left_since D.faults }
     ensures take_part { SessionsTakePart D.content }
+    ensures prepares { SessionsPrepare D.stated D.content D.moment D.left_since D.faults }
 {}
 
 /// Devices that are opened on several disks, prepared and run, as `Pair` does it, and decided over; cut at the end of

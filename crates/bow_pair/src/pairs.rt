@@ -3,7 +3,7 @@ ghost use Rattle.std.specs.Prelude.{◌≡◌, ◌<◌, ◌≤◌, ℕ, List, []
 ghost use Rattle.bow_core.specs.Views.{View};
 ghost use Rattle.bow_deal.specs.Dealing.{later_part, opening_part};
 ghost use Rattle.bow_pair.specs.Joining.{AreOpenedOver, JoinsNot};
-ghost use Rattle.bow_pair.specs.Deciding.{AgreesBy, AreAtRest, IsDecidedCaused, TakePart, disks_of};
+ghost use Rattle.bow_pair.specs.Deciding.{AgreesBy, AreAtRest, IsDecidedCaused, NoneFell, TakePart, disks_of};
 ghost use Rattle.bow_pair.specs.Joint.{IsJointCut, Member};
 ghost use Rattle.bow_pair.specs.Pairs.{AreReady, MayBeDealt, WerePrepared, data_in, journal_in, part_of};
 ghost use Rattle.bow_pair.specs.Playing.{HavePlayed};
@@ -176,6 +176,7 @@ impl<D: Disk + Drop, R: Ranges + Drop> Pair<D, R> {
         ensures cause { IsDecidedCaused (K.faults keeper.old) (K.faults keeper.new) D.faults self.old.cores
             self.new.cores result }
         ensures untouched { (device : ℕ) → result ≡ NotCommitted device → keeper.new ≡ keeper.old }
+        ensures counts { NoneFell D.faults self.old.cores self.new.cores }
         ensures agreed { (left : Option (List ℕ)) → K.kept keeper.old ≡ Some None → K.kept keeper.new ≡ Some left
             → (members : List Member) → TakePart D.content self.old.cores members → (images : ℕ → List (List ℕ))
             → IsJointCut D.content (disks_of self.new.cores) images → AgreesBy result left members images }

@@ -11,6 +11,7 @@ mod Making
 mod Nobody
 mod Opened
 mod PairBooting
+mod PairKeeping
 mod PairPlaying
 mod PairSettling
 mod PairTelling

@@ -11,8 +11,9 @@ use Rattle.bow_tool.specs.declared.verdicts.Verdict.{Verdict}
 use Rattle.bow_tool.specs.declared.verdicts.Verdict.TheVariants.{Committed, NotPrepared, NotCommitted, Failed}
 use Rattle.bow_tool.specs.Outside.{DiskView, KeeperView}
 use Rattle.bow_tool.specs.PairCalls.{PairCall}
-use Rattle.bow_tool.specs.PairLines.{devices_text, verdict_line}
-use Rattle.bow_tool.specs.PairPlays.{EndsWell, IsPairTold, JoinedCame, PairCame, PairRun, WentOn, WereJoined, pair_text}
+use Rattle.bow_tool.specs.PairLines.{PairRun, devices_text, pair_text, verdict_line}
+use Rattle.bow_tool.specs.PairPlays.{EndsWell, IsPairTold, JoinedCame, PairCame, WentOn, WereJoined}
+use Rattle.bow_tool.proofs.PairKeeping.{Laws, pair_keeps}
 
 module _ {D K : Type 0} (v : DiskView D) (w : KeeperView K) (script : List (List (List Line))) (opened : List (View D)) (from to : K) (after : List D) where
   -- the text of devices that went so was told
@@ -38,8 +39,8 @@ module _ {D K : Type 0} (v : DiskView D) (w : KeeperView K) (script : List (List
       pair_told count r way t.items (is ∙ spelled) verdict same.0 o told
   joined_told count r way first second verdict same (Err e) o is told = subst (JoinedCame v w script opened from to after count) (sym told) (refl, inr (r, way))
 
--- what joined devices came to, as a call over them
-pub joined_came : (c : PairCall) (j : WereJoined c) (count : ℕ) → count ≡ length c.disks → (o : Outcome) → JoinedCame c.views c.keepers j.script j.opened j.read c.keeper_after c.disks_after count o → PairCame c o
-joined_came c j count many (outcome.Done text) came = (j, came.0, came.1, came.2, came.3 ∙ ap (λ n. pair_text n came.0) many)
-joined_came c j count many (outcome.Refused refusal) came = inr (inr (inr (came.0, (j, came.1))))
-joined_came c j count many (outcome.Behind refusal text) came = (j, came.0, came.1, came.2, came.3 ∙ ap (λ n. pair_text n came.0) many)
+-- what joined devices came to, as a call over them, and what the laws of several devices promise of it
+pub joined_came : (c : PairCall) → Laws c.views → (j : WereJoined c) (count : ℕ) → count ≡ length c.disks → (o : Outcome) → JoinedCame c.views c.keepers j.script j.opened j.read c.keeper_after c.disks_after count o → PairCame c o
+joined_came c laws j count many (outcome.Done text) came = (j, came.0, came.1, pair_keeps c j came.0 came.1 laws, came.2, came.3 ∙ ap (λ n. pair_text n came.0) many)
+joined_came c laws j count many (outcome.Refused refusal) came = inr (inr (inr (came.0, (j, came.1))))
+joined_came c laws j count many (outcome.Behind refusal text) came = (j, came.0, came.1, pair_keeps c j came.0 came.1 laws, came.2, came.3 ∙ ap (λ n. pair_text n came.0) many)

@@ -74,7 +74,7 @@ module _ (law : FaultyIsNotSound) (c : PairCall) (order : PairBootInOrder c) whe
   -- sizes are no cause
   no_sizes_stop : (refusal : Refusal) → SizesStop c.views c.disks c.disks_after refusal → ⊥
   no_sizes_stop refusal stop =
-      no_sizes_cause (c.views.stated stop.is) (c.views.faults stop.was) (c.views.faults stop.is) refusal (λ g at. order.sizes stop.device stop.is stop.is_here g at) (λ rose. order.disks stop.device stop.was stop.is stop.was_here stop.is_here rose) stop.cause
+      no_sizes_cause (c.views.stated stop.is) (c.views.faults stop.was) (c.views.faults stop.is) refusal (λ g at. order.sizes stop.device stop.is stop.is_here g at) (λ rose. order.calls.disks stop.device stop.was stop.is stop.was_here stop.is_here rose) stop.cause
 
   module _ (r : Result PairBooted PairBootFault) (did : WasPairBooted c.views c.keepers c.disks c.disks_after c.keeper c.keeper_after r) where
     -- the decision is kept still as it is read once more
@@ -92,7 +92,7 @@ module _ (law : FaultyIsNotSound) (c : PairCall) (order : PairBootInOrder c) whe
         let fine = order.fine stop.device was.0 after.0 was.1 after.1 in
         let can = fine.2 size.0 (did.booted.stated stop.device size.0 after.0 size.1 after.1) in
         only_memory law c.views.content c.views.faults committed stop.device size.0 asked.0 after.0 fine.0 fault (content_kept c.views was.0 asked.0 sizes ∙ fine.1) (subst (λ b. CanSettle b size.0 (contents_of fine.0.now)) (one_decision order.committed committed decided) can)
-        (λ rose. order.disks stop.device was.0 after.0 was.1 after.1 (rose_since (c.views.faults was.0) (c.views.faults asked.0) (c.views.faults after.0) sizes.faults rose)) (stop.refused stop.device size.0 asked.0 after.0 size.1 asked.1 after.1 refl)
+        (λ rose. order.calls.disks stop.device was.0 after.0 was.1 after.1 (rose_since (c.views.faults was.0) (c.views.faults asked.0) (c.views.faults after.0) sizes.faults rose)) (stop.refused stop.device size.0 asked.0 after.0 size.1 asked.1 after.1 refl)
 
   -- what the keeper keeps after it
   left : (fault : PairBootFault) → WasPairBooted c.views c.keepers c.disks c.disks_after c.keeper c.keeper_after (Err fault) → (kept : Option (List ℕ)) × (c.keepers.kept c.keeper_after ≡ Some kept)
@@ -103,7 +103,7 @@ module _ (law : FaultyIsNotSound) (c : PairCall) (order : PairBootInOrder c) whe
 
   -- a boot that did not end well found no memory
   found_none : (fault : PairBootFault) → WasPairBooted c.views c.keepers c.disks c.disks_after c.keeper c.keeper_after (Err fault) → fault ≡ boots.NoMemory
-  found_none boots.KeeperFault did = absurd (order.keeper (rose_since (c.keepers.faults c.keeper) (c.keepers.faults did.read) (c.keepers.faults c.keeper_after) did.only_read.faults did.booted.cause))
+  found_none boots.KeeperFault did = absurd (order.calls.keeper (rose_since (c.keepers.faults c.keeper) (c.keepers.faults did.read) (c.keepers.faults c.keeper_after) did.only_read.faults did.booted.cause))
   found_none boots.BadDecision did = absurd ((stops boots.BadDecision did).0 order.committed refl)
   found_none (boots.BadChain device fault) did = let stop = stops (boots.BadChain device fault) did in stopped (Err (boots.BadChain device fault)) did stop.0 (boots.BadChain device fault) stop.1 stop.3
   found_none (boots.BadHeader device fault) did = let stop = stops (boots.BadHeader device fault) did in stopped (Err (boots.BadHeader device fault)) did stop.0 (boots.BadHeader device fault) stop.1 stop.3
@@ -116,7 +116,7 @@ module _ (law : FaultyIsNotSound) (c : PairCall) (order : PairBootInOrder c) whe
   ended refusal (Err fault) did told = ap status_of (told ∙ ap refusal_of_pair_boot (found_none fault did))
 
   unsettled : (refusal : Refusal) → PairUnsettled c.views c.keepers c.disks c.disks_after c.keeper c.keeper_after refusal → status_of refusal ≡ 11
-  unsettled refusal (inl none) = absurd (no_decision_cause c.keepers c.keeper c.keeper_after order.committed refusal order.kept order.keeper none.2)
+  unsettled refusal (inl none) = absurd (no_decision_cause c.keepers c.keeper c.keeper_after order.committed refusal order.kept order.calls.keeper none.2)
   unsettled refusal (inr (inl none)) = elim none.3 [
     | inl memory ↦ ap status_of memory
     | inr stop ↦ absurd (no_sizes_stop refusal stop)

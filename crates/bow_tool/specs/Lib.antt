@@ -12,6 +12,7 @@ pub mod PairCalls
 pub mod PairCommands
 pub mod PairLines
 pub mod PairPlays
+pub mod PairPromises
 pub mod PairScripts
 pub mod Pasts
 pub mod Play

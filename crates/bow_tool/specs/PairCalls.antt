@@ -1,5 +1,6 @@
 -- What lies outside a call of the program over several devices.
-use Rattle.std.specs.Prelude.{◌≡◌, ℕ, ◌≤◌, List, length, slice_get, Option, Some}
+use Rattle.std.specs.Prelude.{◌≡◌, ℕ, ◌≤◌, List, length, slice_get, Some}
+use Rattle.bow_units.specs.Causes.{Rose}
 use Rattle.vold_meta.specs.Keeper.{Goes, Nothing, Same, TimeGoes}
 use Rattle.bow_play.specs.Reading.{Taken, taken_from}
 use Rattle.bow_tool.specs.Outside.{DiskView, KeeperView, SourceView}
@@ -66,3 +67,9 @@ pub record OnlyRead {K : Type 0} (w : KeeperView K) (old new : K) : Type 0 where
 pub record OnlyAsked {D : Type 0} (v : DiskView D) (old new : List D) : Type 0 where
   pub many : length new ≡ length old
   pub each : (k : ℕ) (d e : D) → slice_get old k ≡ Some d → slice_get new k ≡ Some e → OnlySizes v d e
+
+-- no call of a disk or of the keeper failed
+pub record NoneFails (c : PairCall) : Type 0 where
+  pub disks : (k : ℕ) (d e : c.Disk) → slice_get c.disks k ≡ Some d → slice_get c.disks_after k ≡ Some e
+      → Rose (c.views.faults d) (c.views.faults e) → ⊥
+  pub keeper : Rose (c.keepers.faults c.keeper) (c.keepers.faults c.keeper_after) → ⊥

@@ -2,7 +2,6 @@
 use Rattle.std.specs.Prelude.{◌≡◌, ℕ, Bool, true, false, List, slice_get, Option, Some, String}
 use Rattle.std.specs.declared.alloc.Global.{Global}
 use Rattle.bow_units.specs.declared.sizes.Geometry.{Geometry}
-use Rattle.bow_units.specs.Causes.{Rose}
 use Rattle.bow_units.specs.Sizes.{IsValid}
 use Rattle.bow_disk.specs.Disk.{Content}
 use Rattle.bow_chain.specs.Contents.{Contents, contents_of}
@@ -15,7 +14,7 @@ use Rattle.bow_tool.specs.declared.refusals.Refusal.{Refusal}
 use Rattle.bow_tool.specs.Check.{IsFine}
 use Rattle.bow_tool.specs.Commands.{CanForward, Meaning, TellsAsked}
 use Rattle.bow_tool.specs.PairBoots.{PairBootCame, PairBootCause, PairBootText}
-use Rattle.bow_tool.specs.PairCalls.{NoneTouched, PairCall}
+use Rattle.bow_tool.specs.PairCalls.{NoneFails, NoneTouched, PairCall}
 use Rattle.bow_tool.specs.PairPlays.{PairBehind, PairCame, PairCause, PairInOrder, PairText}
 
 -- how many images a command asks for
@@ -42,9 +41,7 @@ pub record PairBootInOrder (c : PairCall) : Type 0 where
   pub fine : (k : ℕ) (d e : c.Disk) → slice_get c.disks k ≡ Some d → slice_get c.disks_after k ≡ Some e
       → (content : Content) × (c.views.content d ≡ Some content) × ((g : Geometry)
       → c.views.stated e ≡ Some g → CanSettle committed g (contents_of content.now))
-  pub disks : (k : ℕ) (d e : c.Disk) → slice_get c.disks k ≡ Some d → slice_get c.disks_after k ≡ Some e
-      → Rose (c.views.faults d) (c.views.faults e) → ⊥
-  pub keeper : Rose (c.keepers.faults c.keeper) (c.keepers.faults c.keeper_after) → ⊥
+  pub calls : NoneFails c
 
 -- the command was done, with this text
 abbrev pub PairDone : PairCall → PairCommand → List ℕ → Type 0

@@ -2,9 +2,11 @@
 use Rattle.std.specs.Prelude.{ℕ, zero, suc, List, [], ◌++◌, codes, slice_get, Option, None, Some}
 use Rattle.std.specs.Fmt.{decimal}
 use Rattle.bow_report.specs.Texts.{transcript_text}
+use Rattle.bow_core.specs.Views.{View}
 use Rattle.bow_session.specs.Parts.{Account, buffers_in, plan_at}
 use Rattle.bow_pair.specs.declared.deciding.Decided.{Decided}
 use Rattle.bow_pair.specs.declared.deciding.Decided.TheVariants as decided
+use Rattle.bow_pair.specs.declared.pairs.Prepared.{Prepared}
 use Rattle.bow_tool.specs.declared.refusals.Refusal.TheVariants.{DiskFault, KeeperFault}
 use Rattle.bow_tool.specs.declared.verdicts.Verdict.{Verdict}
 use Rattle.bow_tool.specs.declared.verdicts.Verdict.TheVariants.{Committed, NotPrepared, NotCommitted, Failed}
@@ -42,3 +44,19 @@ verdict_of decided.Committed = Committed
 verdict_of (decided.NotCommitted device) = NotCommitted device
 verdict_of (decided.Unfinished device) = Failed DiskFault
 verdict_of decided.KeeperFault = Failed KeeperFault
+
+-- The way of devices that were to commit together, once they were opened: the devices as the first sessions left them,
+-- and the second ones, and as they are left; what the sessions left beside them; how the first ones ended, and how all
+-- did.
+pub record PairRun (D : Type 0) : Type 0 where
+  pub ready : List (View D)
+  pub ran : List (View D)
+  pub now : List (View D)
+  pub first : List Account
+  pub second : List Account
+  pub prepared : Prepared
+  pub verdict : Verdict
+
+-- what is told of so many devices that went it
+abbrev pub pair_text : {D : Type 0} → ℕ → PairRun D → List ℕ
+pair_text count r = devices_text count r.first r.second ++ verdict_line r.verdict

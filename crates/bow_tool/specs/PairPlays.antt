@@ -1,5 +1,5 @@
 -- What playing a script over several devices did: what it says, and why it was refused.
-use Rattle.std.specs.Prelude.{◌≡◌, ◌⊎◌, ℕ, List, [], ◌++◌, length, slice_get, slice_index_or, Option, None, Some}
+use Rattle.std.specs.Prelude.{◌≡◌, ◌⊎◌, ℕ, List, [], length, slice_get, slice_index_or, Option, None, Some}
 use Rattle.bow_units.specs.declared.sizes.Geometry.{Geometry}
 use Rattle.bow_units.specs.Causes.{Rose}
 use Rattle.bow_units.specs.Magics.{IsPlain}
@@ -10,7 +10,7 @@ use Rattle.bow_deal.specs.Dealing.{later_part, opening_part}
 use Rattle.bow_script.specs.declared.scripts.Line.{Line}
 use Rattle.bow_script.specs.Scripts.{IsScriptText}
 use Rattle.bow_session.specs.Parts.{Account}
-use Rattle.bow_pair.specs.Deciding.{IsDecidedCaused, disks_of}
+use Rattle.bow_pair.specs.Deciding.{IsDecidedCaused, NoneFell, disks_of}
 use Rattle.bow_pair.specs.Joining.{AreOpenedOver, JoinsNot}
 use Rattle.bow_pair.specs.PairLaws.{LeavesAgreed}
 use Rattle.bow_pair.specs.Pairs.{Joined, MayBeDealt}
@@ -33,8 +33,9 @@ use Rattle.bow_tool.specs.declared.refusals.Refusal.TheVariants.{BadScript, Disk
 use Rattle.bow_tool.specs.declared.verdicts.Verdict.{Verdict}
 use Rattle.bow_tool.specs.declared.verdicts.Verdict.TheVariants as verdict
 use Rattle.bow_tool.specs.Outside.{DiskView, KeeperView}
-use Rattle.bow_tool.specs.PairCalls.{DisksLeft, OnlyRead, PairCall, pair_source}
-use Rattle.bow_tool.specs.PairLines.{devices_text, verdict_line, verdict_of}
+use Rattle.bow_tool.specs.PairCalls.{DisksLeft, NoneFails, OnlyRead, PairCall, pair_source}
+use Rattle.bow_tool.specs.PairLines.{PairRun, pair_text, verdict_of}
+use Rattle.bow_tool.specs.PairPromises.{PairKeeps}
 use Rattle.bow_tool.specs.Play.{refusal_for}
 
 -- the keeper keeps no text, where it tells what it keeps
@@ -44,22 +45,6 @@ KeepsNothing w keeper = (kept : Option (List ℕ)) → w.kept keeper ≡ Some ke
 -- it keeps some text, where it tells what it keeps
 abbrev pub KeepsText : {K : Type 0} → KeeperView K → K → Type 0
 KeepsText w keeper = (kept : Option (List ℕ)) → w.kept keeper ≡ Some kept → kept ≡ None → ⊥
-
--- The way of devices that were to commit together, once they were opened: the devices as the first sessions left them,
--- and the second ones, and as they are left; what the sessions left beside them; how the first ones ended, and how all
--- did.
-pub record PairRun (D : Type 0) : Type 0 where
-  pub ready : List (View D)
-  pub ran : List (View D)
-  pub now : List (View D)
-  pub first : List Account
-  pub second : List Account
-  pub prepared : Prepared
-  pub verdict : Verdict
-
--- what is told of so many devices that went it
-abbrev pub pair_text : {D : Type 0} → ℕ → PairRun D → List ℕ
-pair_text count r = devices_text count r.first r.second ++ verdict_line r.verdict
 
 -- the devices and the keeper failed in nothing once the decision was kept
 abbrev pub EndsWell : Verdict → Type 0
@@ -73,13 +58,14 @@ Played v part old new accounts = HavePlayed v.stated v.content v.moment v.left_s
 
 module _ {D K : Type 0} (v : DiskView D) (w : KeeperView K) (script : List (List (List Line))) (opened : List (View D))
     (from to : K) (after : List D) where
-  -- A decision was made over the devices, and this was answered: what it comes to, its cause, and what each joint cut
-  -- agrees on with the text that is left.
+  -- A decision was made over the devices, and this was answered: what it comes to, its cause, that no count of faults
+  -- fell, and what each joint cut agrees on with the text that is left.
   pub record WasDecided (r : PairRun D) : Type 0 where
     pub answer : Decided
     pub verdict : r.verdict ≡ verdict_of answer
     pub cause : IsDecidedCaused (w.faults from) (w.faults to) v.faults r.ran r.now answer
     pub untouched : (device : ℕ) → answer ≡ decided.NotCommitted device → to ≡ from
+    pub counts : NoneFell v.faults r.ran r.now
     pub agreed : (left : Option (List ℕ)) → w.kept from ≡ Some None → w.kept to ≡ Some left
         → LeavesAgreed v.content r.ran r.now left answer
 
@@ -142,17 +128,17 @@ pub record WereJoined (c : PairCall) : Type 0 where
   pub over : AreOpenedOver c.views.stated c.views.content c.views.moment c.views.left_since c.views.faults c.disks []
       opened
 
--- a script was played over several devices, and this is told of them
+-- a script was played over several devices as is promised, and this is told of them
 abbrev pub PairText : PairCall → List ℕ → Type 0
 PairText c text = (j : WereJoined c) × (r : PairRun c.Disk)
-    × WentOn c.views c.keepers j.script j.opened j.read c.keeper_after c.disks_after r × EndsWell r.verdict
-    × (text ≡ pair_text (length c.disks) r)
+    × WentOn c.views c.keepers j.script j.opened j.read c.keeper_after c.disks_after r
+    × PairKeeps c j.script j.opened r × EndsWell r.verdict × (text ≡ pair_text (length c.disks) r)
 
 -- so it was, but with the decision a device or the keeper failed: the line of that is told behind the transcripts
 abbrev pub PairBehind : PairCall → Refusal → List ℕ → Type 0
 PairBehind c refusal text = (j : WereJoined c) × (r : PairRun c.Disk)
     × WentOn c.views c.keepers j.script j.opened j.read c.keeper_after c.disks_after r
-    × (r.verdict ≡ verdict.Failed refusal) × (text ≡ pair_text (length c.disks) r)
+    × PairKeeps c j.script j.opened r × (r.verdict ≡ verdict.Failed refusal) × (text ≡ pair_text (length c.disks) r)
 
 -- why there is no script for several devices: as for one; or it prepares or commits, or has no room for one more
 -- request
@@ -222,9 +208,7 @@ pub record PairInOrder (c : PairCall) : Type 0 where
       → IsValid g
   pub nothing : c.keepers.kept c.keeper ≡ Some None
   pub source : Rose (c.sources.faults c.source) (c.sources.faults c.source_after) → ⊥
-  pub disks : (k : ℕ) (d e : c.Disk) → slice_get c.disks k ≡ Some d → slice_get c.disks_after k ≡ Some e
-      → Rose (c.views.faults d) (c.views.faults e) → ⊥
-  pub keeper : Rose (c.keepers.faults c.keeper) (c.keepers.faults c.keeper_after) → ⊥
+  pub calls : NoneFails c
 
 -- what it came to
 abbrev pub PairCame : PairCall → Outcome → Type 0

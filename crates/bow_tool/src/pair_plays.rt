@@ -4,7 +4,8 @@ ghost use Rattle.bow_pair.specs.Deciding.{disks_of};
 ghost use Rattle.bow_pair.specs.Pairs.{AreReady, MayBeDealt};
 ghost use Rattle.bow_tool.specs.Outside.{disk_view, keeper_view, source_view};
 ghost use Rattle.bow_tool.specs.PairCalls.{OnlyRead, pair_call_of};
-ghost use Rattle.bow_tool.specs.PairPlays.{IsPairTold, JoinedCame, KeeperCause, KeepsNothing, PairCame, PairRun, StopsShort};
+ghost use Rattle.bow_tool.specs.PairLines.{PairRun};
+ghost use Rattle.bow_tool.specs.PairPlays.{IsPairTold, JoinedCame, KeeperCause, KeepsNothing, PairCame, StopsShort};
 ghost use Rattle.bow_tool.specs.PairPlays.{WentTo, refusal_of_pair};
 ghost use Rattle.bow_tool.specs.declared.outcomes.Outcome.{Outcome};
 ghost use Rattle.bow_tool.specs.declared.refusals.Refusal.{Refusal};
@@ -15,7 +16,7 @@ use crate::pair_scripts::pair_script;
 use crate::refusals::Refusal;
 use crate::verdicts::{Verdict, verdict_of};
 use bow_disk::Disk;
-use bow_pair::{Pair, PairFault, Prepared, Ran};
+use bow_pair::{Pair, PairFault, Prepared, Ran, pair_runs_law, pair_sessions_law};
 use bow_ranges::Ranges;
 use bow_script::Script;
 use bow_tree::RangeTree;
@@ -46,6 +47,8 @@ pub(crate) fn play_pair<D: Disk + Drop, K: Keeper, S: Source>(
     if let Err(refusal) = keeps_nothing(&mut keeper) {
         return (Outcome::Refused(refusal), disks, keeper);
     }
+    pair_sessions_law::<D>();
+    pair_runs_law::<D>();
     let count = disks.len() as u32;
     match Pair::<D, RangeTree>::join_up(alloc, disks) {
         Ok(pair) => play_joined(alloc, pair, count, script, number, keeper),

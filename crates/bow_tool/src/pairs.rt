@@ -38,6 +38,12 @@ pub struct PairEnded<D, K> {
 /// failed, and then nothing more was played; `not committed D` the first of which a call failed later on, before the
 /// decision was kept.
 ///
+/// Of each such play it is promised that the transcripts are complete and their journals legal, the second from where
+/// the first led; that each disk's count of faults rose by at least the faults that they tell; that devices which were
+/// all prepared, wherever they are cut, and then booted until a boot ends well, all have their checkpoint, or all their
+/// committed data, as the last line says; and that this is `committed` where no call fails and each prepare finds two
+/// free blocks.
+///
 /// `PairBoot` asks the keeper, the sizes of all disks, the disks, and the keeper. At status 0 the sink has taken
 /// `forwarded`, `rolled back` or `plain`. Whatever a cut leaves of the two, and however often a boot is cut, the first
 /// `PairBoot` that ends well leaves all devices with their checkpoint, or all with their committed data, by whether the

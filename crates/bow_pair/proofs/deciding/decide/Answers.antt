@@ -4,7 +4,7 @@ use Rattle.vold_meta.specs.Keeper.{Changes}
 use Rattle.vold_meta.specs.Decisions.{commit_text}
 use Rattle.bow_pair.specs.Joint.{AgreesOn}
 use Rattle.bow_pair.proofs.Booting.{goes_on, goes_told}
-use Rattle.bow_pair.proofs.Decisions.{all_current, all_flushed, all_forward, all_held, all_rest, err_changes, err_rose, ok_changes, rose_later}
+use Rattle.bow_pair.proofs.Decisions.{all_current, all_flushed, all_forward, all_held, all_rest, committed_count, err_changes, err_rose, flushed_count, ok_changes, rose_later}
 use Rattle.bow_pair.proofs.deciding.decide.Goals as goal
 
 same_text : (a b : Option (List ℕ)) → Some a ≡ Some b → b ≡ a
@@ -75,3 +75,28 @@ returns-clause-agreed g c left none is members part images joint =
     let step = goes_told (Changes c.drop_decision.result None) (K.kept c.write_decision.new.keeper) (K.kept c.drop_decision.new.keeper) mid.0 left mid.1 is c.drop_decision.ensures.step in
     let gone = ok_changes c.drop_decision.result None mid.0 left (sym c.is_err-2.ensures.value ∙ c.if-is_err-2.false) step in
     (gone, subst (λ (l : Option (List ℕ)). AgreesOn true l members images) (sym gone) (all_current D.stated D.content D.faults (λ d t is geo size. g.met.D.Disk.shaped d t is geo size) c.args.cores.now members part c.flush_each.new.cores c.commit_each.new.cores c.flush_each.auto.cores c.commit_each.auto.cores c.flush_each.ensures.kept (c.flush_each.ensures.flushed c.in_default.is) c.commit_each.ensures.kept (c.commit_each.ensures.committed c.in_default-commit_each.is) images joint))
+
+pub returns-in-Some-clause-counts : goal.returns-in-Some-clause-counts
+returns-in-Some-clause-counts g c =
+    let D = g.D.Disk in
+    flushed_count D.stated D.content D.faults (λ d t is geo size. g.met.D.Disk.shaped d t is geo size) c.args.cores.now c.flush_each.new.cores c.flush_each.auto.cores c.flush_each.ensures.kept
+
+pub returns-then-is_err-clause-counts : goal.returns-then-is_err-clause-counts
+returns-then-is_err-clause-counts g c =
+    let D = g.D.Disk in
+    flushed_count D.stated D.content D.faults (λ d t is geo size. g.met.D.Disk.shaped d t is geo size) c.args.cores.now c.flush_each.new.cores c.flush_each.auto.cores c.flush_each.ensures.kept
+
+pub returns-in-Some-commit_each-clause-counts : goal.returns-in-Some-commit_each-clause-counts
+returns-in-Some-commit_each-clause-counts g c =
+    let D = g.D.Disk in
+    committed_count D.stated D.content D.faults (λ d t is geo size. g.met.D.Disk.shaped d t is geo size) c.args.cores.now c.flush_each.new.cores c.commit_each.new.cores c.flush_each.auto.cores c.commit_each.auto.cores c.flush_each.ensures.kept c.commit_each.ensures.kept
+
+pub returns-then-is_err-2-clause-counts : goal.returns-then-is_err-2-clause-counts
+returns-then-is_err-2-clause-counts g c =
+    let D = g.D.Disk in
+    committed_count D.stated D.content D.faults (λ d t is geo size. g.met.D.Disk.shaped d t is geo size) c.args.cores.now c.flush_each.new.cores c.commit_each.new.cores c.flush_each.auto.cores c.commit_each.auto.cores c.flush_each.ensures.kept c.commit_each.ensures.kept
+
+pub returns-clause-counts : goal.returns-clause-counts
+returns-clause-counts g c =
+    let D = g.D.Disk in
+    committed_count D.stated D.content D.faults (λ d t is geo size. g.met.D.Disk.shaped d t is geo size) c.args.cores.now c.flush_each.new.cores c.commit_each.new.cores c.flush_each.auto.cores c.commit_each.auto.cores c.flush_each.ensures.kept c.commit_each.ensures.kept

@@ -1,4 +1,4 @@
-use Rattle.std.proofs.Common.{◌≡◌, Bool, Err, false, subst}
+use Rattle.std.proofs.Common.{◌≡◌, Err, false, subst}
 use Rattle.vold_meta.specs.Decisions.{ReadsDecision}
 use Rattle.vold_meta.specs.declared.decisions.DecisionFault.{DecisionFault}
 use Rattle.vold_meta.specs.declared.decisions.DecisionFault.TheVariants.{BadDecision}

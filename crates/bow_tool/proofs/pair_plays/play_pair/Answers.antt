@@ -2,6 +2,7 @@ use Rattle.std.proofs.Common.{arith}
 use Rattle.bow_tool.specs.Outside.{disk_view, keeper_view, source_view}
 use Rattle.bow_tool.specs.PairCalls.{PairCall, pair_call_of}
 use Rattle.bow_tool.specs.PairPlays.{WereJoined}
+use Rattle.bow_tool.proofs.PairKeeping.{Laws}
 use Rattle.bow_tool.proofs.PairPlaying.{joined_came}
 use Rattle.bow_tool.proofs.pair_plays.play_pair.Goals as goal
 
@@ -18,4 +19,15 @@ returns-in-Ok-join_up g c =
       opened = c.in-Ok-join_up.pair.cores;
       over = c.in-Ok-join_up.ensures.opened;
     } in
-    joined_came call j c.len-count.result (let long = c.len-count.ensures in let whole = c.args.disks.ok in omega (arith, long, whole)) c.play_joined.result.0 c.play_joined.ensures
+    let at_once = c.pair_sessions_law.ensures in
+    let in_the_end = c.pair_runs_law.ensures in
+    let laws : Laws call.views = record {
+      complete = at_once.complete;
+      legal = at_once.legal;
+      faults = at_once.faults;
+      prepares = at_once.prepares;
+      prepared = in_the_end.prepared;
+      ran = in_the_end.ran;
+      decided = in_the_end.decided;
+    } in
+    joined_came call laws j c.len-count.result (let long = c.len-count.ensures in let whole = c.args.disks.ok in omega (arith, long, whole)) c.play_joined.result.0 c.play_joined.ensures

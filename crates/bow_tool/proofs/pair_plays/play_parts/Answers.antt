@@ -1,18 +1,18 @@
-use Rattle.std.proofs.Common.{◌≡◌, inr, ℕ, List, Result, Ok, Err, length, refl, sym, ap, ◌∙◌, subst}
+use Rattle.std.proofs.Common.{inr, List, Result, Ok, Err, length, refl, sym, ap, ◌∙◌, subst}
 use Rattle.std.specs.Prelude.{OnErr}
-use Rattle.bow_core.specs.Views.{View}
 use Rattle.bow_deal.specs.Dealing.{later_part}
 use Rattle.bow_script.specs.declared.scripts.Line.{Line}
-use Rattle.bow_pair.specs.Deciding.{AreAtRest, disks_of}
+use Rattle.bow_pair.specs.Deciding.{disks_of}
 use Rattle.bow_pair.specs.Preparing.{AnswersPrepared, AnswersRan}
 use Rattle.bow_pair.specs.declared.pairs.Prepared.TheVariants.{All, NotAll}
 use Rattle.bow_pair.specs.declared.pairs.Ran.TheVariants.{Clean, Faulty}
 use Rattle.bow_tool.specs.declared.verdicts.Verdict.TheVariants as verdict
-use Rattle.bow_tool.specs.Outside.{DiskView, disk_view, keeper_view}
-use Rattle.bow_tool.specs.PairPlays.{Played, PairRun, StopsShort, WasDecided, WentOn}
+use Rattle.bow_tool.specs.Outside.{DiskView, disk_view}
+use Rattle.bow_tool.specs.PairLines.{PairRun}
+use Rattle.bow_tool.specs.PairPlays.{Played}
 use Rattle.bow_tool.proofs.pair_plays.play_parts.Given.{Over}
 use Rattle.bow_tool.proofs.pair_plays.play_parts.Goals as goal
-use Rattle.bow_tool.proofs.pair_plays.play_parts.Goals.{In-All, In_ok-run}
+use Rattle.bow_tool.proofs.pair_plays.play_parts.Goals.{In_ok-run}
 
 -- a fact holds where an error is answered
 on_err : {T E : Type 0} (r : Result T E) (P : Type 0) → P → OnErr r P
@@ -97,6 +97,7 @@ returns-clause-went g c =
                 verdict = c.verdict_of.ensures;
                 cause = c.decide.ensures.cause;
                 untouched = c.decide.ensures.untouched;
+                counts = c.decide.ensures.counts;
                 agreed = c.decide.ensures.agreed;
               },
             ),

@@ -2,7 +2,7 @@ use Rattle.std.proofs.Common.{◌≡◌, List, length, take, drop, ◌++◌, sym
 use Rattle.std.specs.Prelude.{slice_get}
 use Rattle.std.proofs.lemmas.List.{with_items_is}
 use Rattle.bow_core.specs.Views.{View}
-use Rattle.bow_pair.specs.Deciding.{IsDecidedCaused, TakePart, disks_of}
+use Rattle.bow_pair.specs.Deciding.{IsDecidedCaused, NoneFell, TakePart, disks_of}
 use Rattle.bow_pair.specs.Joint.{IsJointCut}
 use Rattle.bow_pair.specs.Pairs.{Joined}
 use Rattle.bow_pair.proofs.pairs.Pair.decide.Given.{Over}
@@ -42,6 +42,14 @@ returns-clause-cause g c =
     let before = (goal.at.returns-clause-cause g c).After-deref_mut in
     subst (λ (l : List (View g.row.D.Denot)). IsDecidedCaused (K.faults c.args.keeper.now) (K.faults c.decide.new.keeper) D.faults c.args.self.now.cores l c.decide.result) (sym (put_back g q))
     (subst (λ (l : List (View g.row.D.Denot)). IsDecidedCaused (K.faults c.args.keeper.now) (K.faults c.decide.new.keeper) D.faults l c.decide.new.cores c.decide.result) (lent g before) c.decide.ensures.cause)
+
+pub returns-clause-counts : goal.returns-clause-counts
+returns-clause-counts g c =
+    let D = g.D.Disk in
+    let q = (goal.at.returns-clause-counts g c).After-decide in
+    let before = (goal.at.returns-clause-counts g c).After-deref_mut in
+    subst (λ (l : List (View g.row.D.Denot)). NoneFell D.faults c.args.self.now.cores l) (sym (put_back g q))
+    (subst (λ (l : List (View g.row.D.Denot)). NoneFell D.faults l c.decide.new.cores) (lent g before) c.decide.ensures.counts)
 
 pub returns-clause-agreed : goal.returns-clause-agreed
 returns-clause-agreed g c left none is members part images joint =
