@@ -67,6 +67,7 @@ is_more a b h = grind (arith, h)
 
 -- ----------------------------------------------------------------------------------------------------------------
 
+-- a lane whose next request is not before this section
 pub from_member : (plan : Plan) (s : Session) (low lane n : ℕ) (op : Op) → lane < n → plan.request lane (s.number lane) ≡ Some op → is_from plan s low n ≡ true → low ≤ plan.section lane (s.number lane)
 from_member plan s low lane zero op below next h = absurd (omega (arith, below))
 from_member plan s low lane (suc n) op below next h =

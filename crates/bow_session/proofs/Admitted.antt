@@ -4,7 +4,7 @@ use Rattle.std.specs.Prelude.{get_or, slice_get, slice_set, take}
 use Rattle.std.specs.List.{sum_by, list_all}
 use Rattle.std.specs.Option.{option_map, option_map_or}
 use Rattle.std.proofs.lemmas.Option.{slice_get_within, slice_get_read}
-use Rattle.std.proofs.lemmas.Bool.{cases_eq, cases_lt, and_parts, ltb-true, leb-true, false≢true}
+use Rattle.std.proofs.lemmas.Bool.{cases_eq, cases_lt, and_parts, ltb-true, false≢true}
 use Rattle.std.proofs.lemmas.List.Sums.{sum_by-cons}
 use mathlib.Core.Path.{fun_ext}
 use Rattle.bow_units.specs.declared.sizes.Geometry.{Geometry}
@@ -24,6 +24,7 @@ use Rattle.bow_history.specs.Sessions.{Session, Turned, Admits, taken_in, after_
 use Rattle.bow_history.specs.Ready.{is_from, is_lane_ready, is_actor_ready}
 use Rattle.bow_history.specs.SoundSessions.{IsSoundSession}
 use Rattle.bow_history.specs.Ends.{items_left}
+use Rattle.bow_history.proofs.Progress.{from_member}
 use Rattle.bow_session.specs.declared.seats.Asked.{Asked}
 use Rattle.bow_session.specs.declared.seats.Hand.{Hand}
 use Rattle.bow_session.specs.declared.seats.Seat.{Seat}
@@ -70,19 +71,6 @@ inside_lanes g script lane n op next = elim (cases_lt lane (lanes_of script)) [
   | inl inside ↦ inside
   | inr past ↦ absurd (let none : requests g.block_size script lane n ≡ None = ap (λ (l : List Line). option_map (request_of g.block_size) (slice_get l n)) (no_lines script lane past) in let clash : None ≡ Some op = sym none ∙ next in grind (arith, clash))
 ]
-
--- a lane whose next request is not before this section
-from_member : (plan : Plan) (s : Session) (low lane n : ℕ) (op : Op) → lane < n → plan.request lane (s.number lane) ≡ Some op → is_from plan s low n ≡ true → low ≤ plan.section lane (s.number lane)
-from_member plan s low lane zero op below next h = absurd (omega (arith, below))
-from_member plan s low lane (suc n) op below next h =
-    let parts = and_parts _ _ h in
-    elim (cases_eq lane n) [
-      | inl is ↦
-          let here : nat_le low (plan.section n (s.number n)) ≡ true = ap (λ o. is_none o || nat_le low (plan.section n (s.number n))) (sym (ap (λ l. plan.request l (s.number l)) (sym is) ∙ next)) ∙ parts.0 in
-          let up = leb-true low (plan.section n (s.number n)) here in
-          subst (λ l. low ≤ plan.section l (s.number l)) (sym is) up
-      | inr ne ↦ from_member plan s low lane n op (omega (arith, below, ne)) next parts.1
-    ]
 
 sum_set : (f : Seat → ℕ) (xs : List Seat) (i : ℕ) (x y : Seat) → slice_get xs i ≡ Some x → sum_by f (slice_set xs i y) + f x ≡ sum_by f xs + f y
 sum_set f [] i x y here = absurd (grind (arith, here))

@@ -88,11 +88,9 @@ module _ {D R : Type 0} (s : Desk D R) (k : Fits s) (lane : ℕ) (ready : is_act
         lends_wanted : new.buffers.items ≡ without_lent wanted seat.buffers.items
         lends_wanted = lends ∙ ap (λ (w : Geometry). without_lent (request_of w.block_size line) seat.buffers.items) z_is
 
-        pub entered_fits : Fits (desk core)
-        entered_fits = subst (λ (x : View D). Fits (desk x)) (sym waits)
-            (admit_fits s k lane seat seated ready free asked rest pending wanted wanted_is op op_made ticket serial new hand has is section first lent coming same lends_wanted rec seats journal moments)
-
-        pub entered_turn : (stated : D → Option Geometry) (content : D → Option Content) (moment : D → ℕ) (left : D → ℕ → List (List ℕ) → Type 0) (faults : D → ℕ)
-            → StepsBy stated content moment left faults (run_of s) (LaneActor lane) (run_of (desk core))
-        entered_turn stated content moment left faults = subst (λ (x : View D). StepsBy stated content moment left faults (run_of s) (LaneActor lane) (run_of (desk x))) (sym waits)
-            (admit_turn s k lane seat seated ready free asked rest pending wanted wanted_is op op_made ticket serial new hand has is section first lent coming same lends_wanted rec seats journal moments stated content moment left faults)
+        pub entered : (stated : D → Option Geometry) (content : D → Option Content) (moment : D → ℕ) (left : D → ℕ → List (List ℕ) → Type 0) (faults : D → ℕ)
+            → Fits (desk core) × StepsBy stated content moment left faults (run_of s) (LaneActor lane) (run_of (desk core))
+        entered stated content moment left faults = subst (λ (x : View D). Fits (desk x) × StepsBy stated content moment left faults (run_of s) (LaneActor lane) (run_of (desk x))) (sym waits) (
+          admit_fits s k lane seat seated ready free asked rest pending wanted wanted_is op op_made ticket serial new hand has is section first lent coming same lends_wanted rec seats journal moments,
+          admit_turn s k lane seat seated ready free asked rest pending wanted wanted_is op op_made ticket serial new hand has is section first lent coming same lends_wanted rec seats journal moments stated content moment left faults,
+        )
