@@ -8,7 +8,6 @@ use Rattle.bow_core.specs.Standing.{StandsIn}
 use Rattle.bow_core.specs.Views.{View}
 use Rattle.bow_core.proofs.Rooms.{room_is, trimmed_is}
 use Rattle.bow_core.proofs.device.Core.status.Goals as goal
-use Rattle.bow_core.proofs.device.Core.status.Goals.{After-status}
 
 pub returns-clause-shown : goal.returns-clause-shown
 returns-clause-shown g c =
