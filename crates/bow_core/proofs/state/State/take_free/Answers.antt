@@ -14,4 +14,4 @@ invariant_of-self g c =
     let s = c.args.self.now in
     let k = c.self.invariant in
     kept_with k c.set.ensures.blocks k.log (taken_saved s.geometry s.memory.kinds (g.R.Ranges.kinds c.self.inside.table) (ap (λ (h : Held). h.memory.kinds) c.self.view_is) c.requires.table c.args.want c.requires.some c.in-Some.free (sym c.pick.ensures ∙ c.in-Some.is)
-          (g.R.Ranges.kinds c.set.new.self) c.self.inside.saved c.set.ensures.set k.saved)
+    (g.R.Ranges.kinds c.set.new.self) c.self.inside.saved c.set.ensures.set k.saved)
